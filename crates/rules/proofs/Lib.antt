@@ -1,0 +1,4 @@
+pub mod PriceTime
+pub mod ProRata
+pub mod Total
+pub mod Writes

@@ -1,0 +1,3 @@
+pub mod Domain
+pub mod PriceTime
+pub mod ProRata
