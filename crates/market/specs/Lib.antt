@@ -1,0 +1,13 @@
+pub mod Lists
+pub mod Prices
+pub mod Orders
+pub mod Rows
+pub mod Refusals
+pub mod Acceptances
+pub mod Levels
+pub mod Matching
+pub mod Endings
+pub mod BookCalls
+pub mod Venues
+pub mod Sessions
+pub mod Figures

@@ -1,0 +1,64 @@
+// Why a call is refused.
+ghost use mathlib.Core.Path.{_≡_};
+ghost use Rattle.market.specs.Refusals.{refusal-code};
+
+// The layer of the venue that refuses.
+#[derive(Clone, Copy)]
+pub enum Layer {
+    Line,
+    Gate,
+    Book,
+}
+
+// A number with a case is the place of the byte or field at fault.
+#[derive(Clone, Copy)]
+pub enum Refusal {
+    NotOffered,
+    Byte(u32),
+    Field(u32),
+    Band(u32),
+    Phase,
+    Participant,
+    Book(u32),
+    Order,
+    Quantity(u32),
+    Price(u32),
+    NumbersSpent,
+    BookFull,
+    ReportFull,
+}
+
+// How a refusal is told: its number, the layer that refuses, and the place at fault.
+#[derive(Clone, Copy)]
+pub struct RefusalCode {
+    pub number: u32,
+    pub layer: Layer,
+    pub place: u32,
+}
+
+impl Refusal {
+    pub fn code(self) -> RefusalCode
+        ensures { λ r. ⌜ r ≡ refusal-code self ⌝ }
+    {
+        let (number, layer, place) = match self {
+            Refusal::NotOffered => (0, Layer::Gate, 0),
+            Refusal::Byte(place) => (1, Layer::Line, place),
+            Refusal::Field(place) => (2, Layer::Line, place),
+            Refusal::Band(place) => (3, Layer::Gate, place),
+            Refusal::Phase => (4, Layer::Gate, 0),
+            Refusal::Participant => (5, Layer::Gate, 1),
+            Refusal::Book(place) => (6, Layer::Gate, place),
+            Refusal::Order => (7, Layer::Gate, 2),
+            Refusal::Quantity(place) => (8, Layer::Gate, place),
+            Refusal::Price(place) => (9, Layer::Gate, place),
+            Refusal::NumbersSpent => (13, Layer::Book, 0),
+            Refusal::BookFull => (14, Layer::Book, 0),
+            Refusal::ReportFull => (15, Layer::Book, 0),
+        };
+        RefusalCode {
+            number,
+            layer,
+            place,
+        }
+    }
+}

@@ -1,0 +1,7 @@
+// The two sides of a trade.
+
+#[derive(Clone, Copy)]
+pub enum Side {
+    Buy,
+    Sell,
+}
