@@ -1,3 +1,5 @@
 pub mod Sums
 pub mod Sizes
 pub mod Fills
+pub mod Asking
+pub mod Matches
