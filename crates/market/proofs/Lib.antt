@@ -3,3 +3,5 @@ pub mod Sizes
 pub mod Fills
 pub mod Asking
 pub mod Matches
+pub mod Crossing
+pub mod Keeping
