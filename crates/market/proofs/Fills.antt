@@ -40,7 +40,7 @@ below-from (k ∷ ks) (q ∷ qs) e h = (h zero, below-from ks qs (omega arith) (
 -- ---- what a fill's rows say
 
 -- of two different orders, a trade names n as the first alone would
-names-other : (s : Side) (m t n : ℕ) → (n ≡ t → ⊥) → (eqb (buyer-of s m t) n || eqb (buyer-of (opposite s) m t) n) ≡ eqb m n
+pub names-other : (s : Side) (m t n : ℕ) → (n ≡ t → ⊥) → (eqb (buyer-of s m t) n || eqb (buyer-of (opposite s) m t) n) ≡ eqb m n
 names-other Buy m t n ne = grind (arith, tells)
 names-other Sell m t n ne = grind (arith, tells)
 

@@ -5,3 +5,5 @@ pub mod Asking
 pub mod Matches
 pub mod Crossing
 pub mod Keeping
+pub mod Cancelling
+pub mod Entering
