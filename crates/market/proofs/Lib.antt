@@ -7,3 +7,4 @@ pub mod Crossing
 pub mod Keeping
 pub mod Cancelling
 pub mod Entering
+pub mod Taking
