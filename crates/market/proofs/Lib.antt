@@ -8,3 +8,4 @@ pub mod Keeping
 pub mod Cancelling
 pub mod Entering
 pub mod Taking
+pub mod Sessions
