@@ -35,8 +35,9 @@ small-lasts o k h = let left : quantity-of (less o k) ≡ quantity-of o - k = qu
 
 pub bounded-after-fill : (test : Order → Bool) (os : List Order) (ks : List ℕ) → Bounded os → Bounded (after-fill test os ks)
 bounded-after-fill test os ks b = record {
-    small = all-after-fill (λ o. quantity-of o ≤ 10000) small-lasts test os ks (b .small);
-    few = omega (arith, length-after-fill test os ks, b .few) }
+  small = all-after-fill (λ o. quantity-of o ≤ 10000) small-lasts test os ks (b .small);
+  few = omega (arith, length-after-fill test os ks, b .few);
+}
 
 same-price-refl : (p : Price) → same-price p p ≡ true
 same-price-refl p = grind (arith, ints)
@@ -72,7 +73,8 @@ asked o p os q b best =
       some = omega (arith, level-some (lot-book (o .lot)) (opposite (o .side)) p os (best .there));
       few = omega (arith, b .few);
       small = quantity-small (facing o p os) small;
-      bounded = omega (arith, b .few, total-small (facing o p os) small) }
+      bounded = omega (arith, b .few, total-small (facing o p os) small);
+    }
 
 module _ (shares : List ℕ → ℕ → List ℕ) (laws : Laws shares) where
   pub shares-below : (o : Order) (p : Price) (os : List Order) (q : ℕ) → Bounded os → Best (lot-book (o .lot)) (o .side) os p →

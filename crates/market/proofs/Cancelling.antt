@@ -63,7 +63,8 @@ cancels-keep m participant number _ s (taken-out before o behind is others mine)
       balance = λ n h. omega (arith, ap (resting n) is, resting-++ n before (o ∷ behind), resting-++ n before behind, cancel-gone n h o []);
       below = (cancel-below (m .next) o own, tt);
       orderly = orderly-thins m (before ++ behind) (m .next) s (λ P lasts a. all-without P before o behind (subst (All P) is a))
-        (omega (arith, length-append before (o ∷ behind), length-append before behind)) (omega arith) }
+          (omega (arith, length-append before (o ∷ behind), length-append before behind)) (omega arith);
+    }
 
 -- ---- all that a test takes
 
@@ -73,8 +74,9 @@ withdrawn-balance n h test [] = refl
 withdrawn-balance n h test (o ∷ os) =
     let more = withdrawn-balance n h test os in
     elim (test o) as (λ b. resting n (o ∷ os) ≡ gone n (map cancel-row (cond b (o ∷ kept-by test os) (kept-by test os))) + resting n (cond (not b) (o ∷ kept-by (λ o. not (test o)) os) (kept-by (λ o. not (test o)) os))) [
-      true ↦ omega (arith, cancel-gone n h o (map cancel-row (kept-by test os)))
-    | false ↦ omega arith ]
+      | true ↦ omega (arith, cancel-gone n h o (map cancel-row (kept-by test os)))
+      | false ↦ omega arith
+    ]
 
 cancelled-below : (m : ℕ) (os : List Order) → All (λ o. o .number < m) os → All (Numbers-below m) (map cancel-row os)
 cancelled-below m [] a = tt
@@ -82,8 +84,9 @@ cancelled-below m (o ∷ os) a = (cancel-below m o (a .0), cancelled-below m os 
 
 pub withdrawn-keeps : (w : Withdrawal) (m : BookState) → Orderly m → Ended m (λ n. []) (withdrawn w m)
 withdrawn-keeps w m s = record {
-    gives = none;
-    balance = λ n h. omega (arith, withdrawn-balance n h (leaves w) (m .orders));
-    below = cancelled-below (m .next) (kept-by (leaves w) (m .orders)) (all-kept-by (leaves w) (λ o. o .number < m .next) (m .orders) (numbers-below m s));
-    orderly = orderly-thins m (kept-by (λ o. not (leaves w o)) (m .orders)) (m .next) s (λ P lasts a. all-kept-by (λ o. not (leaves w o)) P (m .orders) a)
-      (length-kept-le (λ o. not (leaves w o)) (m .orders)) (omega arith) }
+  gives = none;
+  balance = λ n h. omega (arith, withdrawn-balance n h (leaves w) (m .orders));
+  below = cancelled-below (m .next) (kept-by (leaves w) (m .orders)) (all-kept-by (leaves w) (λ o. o .number < m .next) (m .orders) (numbers-below m s));
+  orderly = orderly-thins m (kept-by (λ o. not (leaves w o)) (m .orders)) (m .next) s (λ P lasts a. all-kept-by (λ o. not (leaves w o)) P (m .orders) a)
+      (length-kept-le (λ o. not (leaves w o)) (m .orders)) (omega arith);
+}

@@ -31,7 +31,7 @@ pub uncrossed-thins : (os os′ : List Order) → Thins os os′ → Uncrossed o
 uncrossed-thins os os′ thins u =
     thins (λ x. All (λ y. Apart x y) os′) (λ x k a. all-weaker (λ y. Apart x y) (λ y. Apart (less x k) y) (λ y h e b s. h (sym (book-sized x (quantity-of x - k)) ∙ e) b s) os′ a)
     (all-weaker (λ x. All (λ y. Apart x y) os) (λ x. All (λ y. Apart x y) os′)
-      (λ x a. thins (λ y. Apart x y) (λ y k h e b s. h (e ∙ book-sized y (quantity-of y - k)) b s) a) os u)
+    (λ x a. thins (λ y. Apart x y) (λ y k h e b s. h (e ∙ book-sized y (quantity-of y - k)) b s) a) os u)
 
 same-book-refl : (b : BookId) → same-book b b ≡ true
 same-book-refl (Instrument i) = eq-eqb i i refl
@@ -54,13 +54,13 @@ Clear o y = stands (lot-book (o .lot)) (opposite (o .side)) y ≡ true → good 
 clear-buy : (o y : Order) → Clear o y → Apart o y
 clear-buy o y h w b s =
     let k : good Buy (y .price) (o .price) ≡ false =
-      subst (λ t. stands (lot-book (o .lot)) (opposite t) y ≡ true → good t (y .price) (o .price) ≡ false) b h (meets (lot-book (o .lot)) Sell y (sym w) s) in
+    subst (λ t. stands (lot-book (o .lot)) (opposite t) y ≡ true → good t (y .price) (o .price) ≡ false) b h (meets (lot-book (o .lot)) Sell y (sym w) s) in
     grind (arith, ints)
 
 clear-sell : (o y : Order) → Clear o y → Apart y o
 clear-sell o y h w b s =
     let k : good Sell (y .price) (o .price) ≡ false =
-      subst (λ t. stands (lot-book (o .lot)) (opposite t) y ≡ true → good t (y .price) (o .price) ≡ false) s h (meets (lot-book (o .lot)) Buy y w b) in
+    subst (λ t. stands (lot-book (o .lot)) (opposite t) y ≡ true → good t (y .price) (o .price) ≡ false) s h (meets (lot-book (o .lot)) Buy y w b) in
     grind (arith, ints)
 
 apart-self : (o : Order) → Apart o o

@@ -59,21 +59,23 @@ module _ (shares : List ℕ → ℕ → List ℕ) (laws : Laws shares) (m : Book
       let o : Order = arriving a (m .next) in
       let uncancelled = match-cancels-none shares o n match in
       elim (cases-eq n (m .next)) [
-        inl e ↦
-          let own = match-own shares o laws match (s .bounded) in
-          let traded : counted is-trade n rows ≡ counted is-trade (m .next) rows = ap (λ k. counted is-trade k rows) e in
-          let none-before = resting-below (m .next) n (omega arith) (m .orders) (numbers-below m s) in
-          let none-after = resting-below (m .next) n (omega arith) os (match-all shares o (λ x. x .number < m .next) (λ x k h. h) match (numbers-below m s)) in
-          omega (arith, cond-same (m .next) n q (sym e), cond-same (m .next) n q′ (sym e))
-      | inr ne ↦ omega (arith, match-other shares o laws n ne match (s .bounded), cond-other (m .next) n q ne, cond-other (m .next) n q′ ne) ]
+        | inl e ↦
+            let own = match-own shares o laws match (s .bounded) in
+            let traded : counted is-trade n rows ≡ counted is-trade (m .next) rows = ap (λ k. counted is-trade k rows) e in
+            let none-before = resting-below (m .next) n (omega arith) (m .orders) (numbers-below m s) in
+            let none-after = resting-below (m .next) n (omega arith) os (match-all shares o (λ x. x .number < m .next) (λ x k h. h) match (numbers-below m s)) in
+            omega (arith, cond-same (m .next) n q (sym e), cond-same (m .next) n q′ (sym e))
+        | inr ne ↦ omega (arith, match-other shares o laws n ne match (s .bounded), cond-other (m .next) n q ne, cond-other (m .next) n q′ ne)
+      ]
 
   pub enters-keeps : (e : Ending BookState) → a .quantity .0 ≤ 10000 → Enters shares m a e → Ended m (entry (a .quantity .0)) e
   enters-keeps _ small (no-number h) = tt
   enters-keeps _ small (whole h match) = record {
-      gives = one (a .quantity .0);
-      balance = λ n k. omega (arith, balanced match n, cond-none (eqb (m .next) n));
-      below = rows-below match;
-      orderly = thinner match }
+    gives = one (a .quantity .0);
+    balance = λ n k. omega (arith, balanced match n, cond-none (eqb (m .next) n));
+    below = rows-below match;
+    orderly = thinner match;
+  }
   enters-keeps _ small (rests {rows} {q = q} {os} h day match some room) =
       let o : Order = sized (arriving a (m .next)) q in
       let t = thinner match in
@@ -86,8 +88,11 @@ module _ (shares : List ℕ → ℕ → List ℕ) (laws : Laws shares) (m : Book
           used = all-push (Used (m .next + 1)) os o (t .used) (s .started, omega arith);
           bounded = record {
             small = all-push (λ x. quantity-of x ≤ 10000) os o (t .bounded .small) (omega (arith, match-own shares (arriving a (m .next)) laws match (s .bounded)));
-            few = omega (arith, length-push os o) };
-          uncrossed = uncrossed-last o os (t .uncrossed) (match-clear shares (arriving a (m .next)) match some) } }
+            few = omega (arith, length-push os o);
+          };
+          uncrossed = uncrossed-last o os (t .uncrossed) (match-clear shares (arriving a (m .next)) match some);
+        };
+      }
   enters-keeps _ small (no-room h day match some full) = tt
   enters-keeps _ small (cut {rows} {q = q} {os} h immediate match some) =
       let o : Order = sized (arriving a (m .next)) q in
@@ -95,11 +100,13 @@ module _ (shares : List ℕ → ℕ → List ℕ) (laws : Laws shares) (m : Book
         gives = one (a .quantity .0);
         balance = λ n k. omega (arith, balanced match n, gone-++ n rows (cancel-row o ∷ []), cancel-gone n k o []);
         below = all-push (Numbers-below (m .next + 1)) rows (cancel-row o) (rows-below match) (cancel-below (m .next + 1) o (omega arith));
-        orderly = thinner match }
+        orderly = thinner match;
+      }
   enters-keeps _ small (killed h kill match some) =
       let o : Order = arriving a (m .next) in
       record {
         gives = one (a .quantity .0);
         balance = λ n k. omega (arith, cancel-gone n k o []);
         below = (cancel-below (m .next + 1) o (omega arith), tt);
-        orderly = orderly-thins m (m .orders) (m .next + 1) s (λ P lasts a′. a′) (omega arith) (omega arith) }
+        orderly = orderly-thins m (m .orders) (m .next + 1) s (λ P lasts a′. a′) (omega arith) (omega arith);
+      }

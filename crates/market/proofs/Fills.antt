@@ -52,8 +52,9 @@ some-counted : (is : RowKind → Bool) (n k : ℕ) (row : Row) → row .quantity
 some-counted is n k row e =
     let one : cond (is (row .kind) && names n row) (row .quantity) 0 ≡ cond (is (row .kind) && names n row) k 0 = ap (λ q. cond (is (row .kind) && names n row) q 0) e in
     elim (eqb k 0) as (λ t. eqb k 0 ≡ t → counted is n (cond t [] (row ∷ [])) ≡ cond (is (row .kind) && names n row) k 0) [
-      true ↦ λ z. grind (arith, tells)
-    | false ↦ λ z. omega arith ] refl
+      | true ↦ λ z. grind (arith, tells)
+      | false ↦ λ z. omega arith
+    ] refl
 
 trade-other : (f t n : ℕ) (o : Order) (k : ℕ) → (n ≡ t → ⊥) → counted is-trade n (some-row k (trade-row f t o k)) ≡ cond (eqb (o .number) n) k 0
 trade-other f t n o k ne = some-counted is-trade n k (trade-row f t o k) refl ∙ ap (λ b. cond b k 0) (names-other (o .side) (o .number) t n ne)
@@ -65,8 +66,12 @@ trade-own f t o k = some-counted is-trade t k (trade-row f t o k) refl ∙ ap (�
 pub fill-cancels-none : (f t n : ℕ) (os : List Order) (ks : List ℕ) → counted is-cancellation n (fill-rows f t os ks) ≡ 0
 fill-cancels-none f t n [] ks = refl
 fill-cancels-none f t n (o ∷ os) ks =
-    omega (arith, counted-++ is-cancellation n (some-row (first ks) (trade-row f t o (first ks))) (fill-rows f t os (rest ks)),
-      some-counted is-cancellation n (first ks) (trade-row f t o (first ks)) refl, fill-cancels-none f t n os (rest ks))
+    omega (
+      arith,
+      counted-++ is-cancellation n (some-row (first ks) (trade-row f t o (first ks))) (fill-rows f t os (rest ks)),
+      some-counted is-cancellation n (first ks) (trade-row f t o (first ks)) refl,
+      fill-cancels-none f t n os (rest ks),
+    )
 
 -- to the arriving order: all shares
 pub fill-own : (f t : ℕ) (os : List Order) (ks : List ℕ) → Below ks (quantities os) → counted is-trade t (fill-rows f t os ks) ≡ total ks
@@ -85,7 +90,7 @@ fill-other f t n ne test (o ∷ os) ks h = step (λ ks h. fill-other f t n ne te
     step : ((ks : List ℕ) → Below ks (quantities (kept-by test os)) → resting n os ≡ counted is-trade n (fill-rows f t (kept-by test os) ks) + resting n (reduced test os ks)) →
         (b : Bool) (ks : List ℕ) → Below ks (quantities (cond b (o ∷ kept-by test os) (kept-by test os))) →
         resting n (o ∷ os) ≡ counted is-trade n (fill-rows f t (cond b (o ∷ kept-by test os) (kept-by test os)) ks)
-          + resting n (cond b (less o (first ks) ∷ reduced test os (rest ks)) (o ∷ reduced test os ks))
+        + resting n (cond b (less o (first ks) ∷ reduced test os (rest ks)) (o ∷ reduced test os ks))
     step ih false ks h = omega (arith, ih ks h)
     step ih true [] h = absurd h
     step ih true (k ∷ ks) h =
@@ -112,8 +117,9 @@ all-reduced : (P : Order → Type 0) → Lasting P → (test : Order → Bool) (
 all-reduced P lasts test [] ks a = tt
 all-reduced P lasts test (o ∷ os) ks a =
     elim (test o) as (λ b. All P (cond b (less o (first ks) ∷ reduced test os (rest ks)) (o ∷ reduced test os ks))) [
-      true ↦ (lasts o (first ks) (a .0), all-reduced P lasts test os (rest ks) (a .1))
-    | false ↦ (a .0, all-reduced P lasts test os ks (a .1)) ]
+      | true ↦ (lasts o (first ks) (a .0), all-reduced P lasts test os (rest ks) (a .1))
+      | false ↦ (a .0, all-reduced P lasts test os ks (a .1))
+    ]
 
 pub all-after-fill : (P : Order → Type 0) → Lasting P → (test : Order → Bool) (os : List Order) (ks : List ℕ) → All P os → All P (after-fill test os ks)
 all-after-fill P lasts test os ks a = all-kept-by still-open P (reduced test os ks) (all-reduced P lasts test os ks a)
@@ -127,8 +133,9 @@ length-reduced : (test : Order → Bool) (os : List Order) (ks : List ℕ) → l
 length-reduced test [] ks = refl
 length-reduced test (o ∷ os) ks =
     elim (test o) as (λ b. length (cond b (less o (first ks) ∷ reduced test os (rest ks)) (o ∷ reduced test os ks)) ≡ suc (length os)) [
-      true ↦ ap suc (length-reduced test os (rest ks))
-    | false ↦ ap suc (length-reduced test os ks) ]
+      | true ↦ ap suc (length-reduced test os (rest ks))
+      | false ↦ ap suc (length-reduced test os ks)
+    ]
 
 pub length-after-fill : (test : Order → Bool) (os : List Order) (ks : List ℕ) → length (after-fill test os ks) ≤ length os
 length-after-fill test os ks = omega (arith, length-kept-le still-open (reduced test os ks), length-reduced test os ks)
@@ -143,6 +150,7 @@ fill-below f t m h [] ks a = tt
 fill-below f t m h (o ∷ os) ks a =
     all-append (Numbers-below m) (some-row (first ks) (trade-row f t o (first ks))) (fill-rows f t os (rest ks))
     (elim (eqb (first ks) 0) as (λ b. All (Numbers-below m) (cond b [] (trade-row f t o (first ks) ∷ []))) [
-      true ↦ tt
-    | false ↦ ((trade-below (o .side) m (o .number) t (a .0) h, trade-below (opposite (o .side)) m (o .number) t (a .0) h), tt) ])
+      | true ↦ tt
+      | false ↦ ((trade-below (o .side) m (o .number) t (a .0) h, trade-below (opposite (o .side)) m (o .number) t (a .0) h), tt)
+    ])
     (fill-below f t m h os (rest ks) (a .1))

@@ -39,10 +39,11 @@ numbers-below m k = all-weaker (Used (m .next)) (λ o. o .number < m .next) (λ 
 pub orderly-thins : (m : BookState) (os : List Order) (n : ℕ) → Orderly m → Thins (m .orders) os → length os ≤ length (m .orders) → m .next ≤ n →
     Orderly (record { orders = os; next = n })
 orderly-thins m os n k thins shorter later = record {
-    started = omega (arith, k .started);
-    used = all-weaker (Used (m .next)) (Used n) (λ o h. (h .0, omega (arith, h .1))) os (thins (Used (m .next)) (λ o j h. h) (k .used));
-    bounded = record { small = thins (λ o. quantity-of o ≤ 10000) small-lasts (k .bounded .small); few = omega (arith, k .bounded .few) };
-    uncrossed = uncrossed-thins (m .orders) os thins (k .uncrossed) }
+  started = omega (arith, k .started);
+  used = all-weaker (Used (m .next)) (Used n) (λ o h. (h .0, omega (arith, h .1))) os (thins (Used (m .next)) (λ o j h. h) (k .used));
+  bounded = record { small = thins (λ o. quantity-of o ≤ 10000) small-lasts (k .bounded .small); few = omega (arith, k .bounded .few) };
+  uncrossed = uncrossed-thins (m .orders) os thins (k .uncrossed);
+}
 
 -- ---- numbers
 
@@ -77,8 +78,9 @@ pub gives-newest : {next next′ : ℕ} {es : List Entry} (n : ℕ) → Gives ne
     (n < next) ⊎ ((n ≡ next) × ((q : ℕ) × Any (λ e. (e .number ≡ n) × (e .quantity ≡ q)) es))
 gives-newest n none h = inl h
 gives-newest {next} n (one q) h = elim (cases-lt n next) [
-    inl less ↦ inl less
-  | inr more ↦ let e : next ≡ n = omega arith in inr (sym e, (q, inl (e, refl))) ]
+  | inl less ↦ inl less
+  | inr more ↦ let e : next ≡ n = omega arith in inr (sym e, (q, inl (e, refl)))
+]
 
 -- ---- a call
 
@@ -91,15 +93,17 @@ pub record Keeps (m : BookState) (rows : List Row) (new : List Entry) (m′ : Bo
 -- a call that does nothing
 pub keeps-still : (m : BookState) (k : ℕ) → Orderly m → Keeps m (blank k) [] m
 keeps-still m k s = record {
-    gives = none;
-    balance = λ n h. omega (arith, gone-blank n k);
-    below = blank-below (m .next) k (s .started);
-    orderly = s }
+  gives = none;
+  balance = λ n h. omega (arith, gone-blank n k);
+  below = blank-below (m .next) k (s .started);
+  orderly = s;
+}
 
 -- rows of zeros after the last
 pub keeps-padded : (m : BookState) (rows : List Row) (new : List Entry) (m′ : BookState) (k : ℕ) → Keeps m rows new m′ → Keeps m (rows ++ blank k) new m′
 keeps-padded m rows new m′ k s = record {
-    gives = s .gives;
-    balance = λ n h. omega (arith, s .balance n h, gone-++ n rows (blank k), gone-blank n k);
-    below = all-append (Numbers-below (m′ .next)) rows (blank k) (s .below) (blank-below (m′ .next) k (s .orderly .started));
-    orderly = s .orderly }
+  gives = s .gives;
+  balance = λ n h. omega (arith, s .balance n h, gone-++ n rows (blank k), gone-blank n k);
+  below = all-append (Numbers-below (m′ .next)) rows (blank k) (s .below) (blank-below (m′ .next) k (s .orderly .started));
+  orderly = s .orderly;
+}

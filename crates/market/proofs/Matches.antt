@@ -51,8 +51,12 @@ module _ (shares : List ℕ → ℕ → List ℕ) (o : Order) where
   match-cancels-none n filled = refl
   match-cancels-none n (no-more h) = refl
   match-cancels-none n {f} {q} {os = os} (fill {rows = rows} p pq best g m) =
-      omega (arith, counted-++ is-cancellation n (fill-rows f (o .number) (facing o p os) (divided shares o p os q)) rows,
-        fill-cancels-none f (o .number) n (facing o p os) (divided shares o p os q), match-cancels-none n m)
+      omega (
+        arith,
+        counted-++ is-cancellation n (fill-rows f (o .number) (facing o p os) (divided shares o p os q)) rows,
+        fill-cancels-none f (o .number) n (facing o p os) (divided shares o p os q),
+        match-cancels-none n m,
+      )
 
   -- a match that leaves something open leaves none within the limit
   pub match-clear : {f q f′ q′ : ℕ} {os os′ : List Order} {rows : List Row} → Match shares o f q os rows f′ q′ os′ → 0 < q′ →
@@ -69,9 +73,13 @@ module _ (shares : List ℕ → ℕ → List ℕ) (o : Order) where
     match-own (no-more h) b = omega arith
     match-own {f} {q} {os = os} (fill {rows = rows} p pq best g m) b =
         let ks : List ℕ = divided shares o p os q in
-        omega (arith, counted-++ is-trade (o .number) (fill-rows f (o .number) (facing o p os) ks) rows,
-          fill-own f (o .number) (facing o p os) ks (shares-below shares laws o p os q b best), shares-total shares laws o p os q b best,
-          match-own m (bounded-after-fill (faced o p) os ks b))
+        omega (
+          arith,
+          counted-++ is-trade (o .number) (fill-rows f (o .number) (facing o p os) ks) rows,
+          fill-own f (o .number) (facing o p os) ks (shares-below shares laws o p os q b best),
+          shares-total shares laws o p os q b best,
+          match-own m (bounded-after-fill (faced o p) os ks b),
+        )
 
     -- to any other: what rested, it traded or still rests
     pub match-other : (n : ℕ) → (n ≡ o .number → ⊥) → {f q f′ q′ : ℕ} {os os′ : List Order} {rows : List Row} → Match shares o f q os rows f′ q′ os′ → Bounded os →
@@ -80,6 +88,10 @@ module _ (shares : List ℕ → ℕ → List ℕ) (o : Order) where
     match-other n ne (no-more h) b = omega arith
     match-other n ne {f} {q} {os = os} (fill {rows = rows} p pq best g m) b =
         let ks : List ℕ = divided shares o p os q in
-        omega (arith, counted-++ is-trade n (fill-rows f (o .number) (facing o p os) ks) rows,
-          fill-other f (o .number) n ne (faced o p) os ks (shares-below shares laws o p os q b best), resting-open n (reduced (faced o p) os ks),
-          match-other n ne m (bounded-after-fill (faced o p) os ks b))
+        omega (
+          arith,
+          counted-++ is-trade n (fill-rows f (o .number) (facing o p os) ks) rows,
+          fill-other f (o .number) n ne (faced o p) os ks (shares-below shares laws o p os q b best),
+          resting-open n (reduced (faced o p) os ks),
+          match-other n ne m (bounded-after-fill (faced o p) os ks b),
+        )

@@ -63,16 +63,23 @@ module _ {Message : Type 0} (reading : Message → Result Call Refusal) where
         let own = gives-own n q (k .gives) any in
         let e : n ≡ u .book .next = own .0 in
         let quiet : Named-below n h = subst (λ m. Named-below m h) (sym e) (s .named) in
-        omega (arith, k .balance n (omega (arith, s .orderly .started)), own .1, over-below is-trade n h quiet, over-below is-cancellation n h quiet,
-          resting-below (u .book .next) n (omega arith) (u .book .orders) (numbers-below (u .book) (s .orderly)))
+        omega (
+          arith,
+          k .balance n (omega (arith, s .orderly .started)),
+          own .1,
+          over-below is-trade n h quiet,
+          over-below is-cancellation n h quiet,
+          resting-below (u .book .next) n (omega arith) (u .book .orders) (numbers-below (u .book) (s .orderly)),
+        )
     conserved-more n q (earlier e) =
         let range = s .no-other n (entered-given e) in
         omega (arith, k .balance n (range .0), gives-others-none n (k .gives) (range .1), s .conserved n q e)
 
     numbered-more : (n : ℕ) → 1 ≤ n → n < v .book .next → (q : ℕ) × Entered reading (t ∷ h) n q
     numbered-more n low high = elim (gives-newest n (k .gives) high) [
-        inl old ↦ let r = s .numbered n low old in (r .0, earlier (r .1))
-      | inr new ↦ (new .1 .0, first (new .1 .1) (λ g. omega (arith, s .no-other n g .1, new .0))) ]
+      | inl old ↦ let r = s .numbered n low old in (r .0, earlier (r .1))
+      | inr new ↦ (new .1 .0, first (new .1 .1) (λ g. omega (arith, s .no-other n g .1, new .0)))
+    ]
 
     no-other-more : (n : ℕ) → Given reading (t ∷ h) n → (1 ≤ n) × (n < v .book .next)
     no-other-more n (inl new) = let r = gives-only n (k .gives) new in (omega (arith, s .orderly .started, r .0), r .1)
@@ -80,11 +87,12 @@ module _ {Message : Type 0} (reading : Message → Result Call Refusal) where
 
     standing-more : Standing (t ∷ h) v
     standing-more = record {
-        conserved = conserved-more;
-        numbered = numbered-more;
-        no-other = no-other-more;
-        named = (k .below, named-later (u .book .next) (v .book .next) (gives-later (k .gives)) h (s .named));
-        orderly = k .orderly }
+      conserved = conserved-more;
+      numbered = numbered-more;
+      no-other = no-other-more;
+      named = (k .below, named-later (u .book .next) (v .book .next) (gives-later (k .gives)) h (s .named));
+      orderly = k .orderly;
+    }
 
   -- ---- the law
 
@@ -94,30 +102,33 @@ module _ {Message : Type 0} (reading : Message → Result Call Refusal) where
 
     absent-or-given : (n : ℕ) → n < v .book .next → Absent-or-given reading h n
     absent-or-given n high = elim (cases-eq n 0) [
-        inl e ↦ inl e
-      | inr ne ↦ inr (given-used n (some n ne) high) ]
+      | inl e ↦ inl e
+      | inr ne ↦ inr (given-used n (some n ne) high)
+    ]
       where
         some : (n : ℕ) → (n ≡ 0 → ⊥) → 1 ≤ n
         some n ne = omega arith
 
     standing-sound : Sound reading h v
     standing-sound = record {
-        conserved = s .conserved;
-        numbered = s .numbered;
-        no-other = s .no-other;
-        named = all-weaker (λ t. All (Numbers-below (v .book .next)) (t .rows)) (λ t. All (λ row. Absent-or-given reading h (row .buyer) × Absent-or-given reading h (row .seller)) (t .rows))
+      conserved = s .conserved;
+      numbered = s .numbered;
+      no-other = s .no-other;
+      named = all-weaker (λ t. All (Numbers-below (v .book .next)) (t .rows)) (λ t. All (λ row. Absent-or-given reading h (row .buyer) × Absent-or-given reading h (row .seller)) (t .rows))
           (λ t a. all-weaker (Numbers-below (v .book .next)) (λ row. Absent-or-given reading h (row .buyer) × Absent-or-given reading h (row .seller))
-            (λ row k. (absent-or-given (row .buyer) (k .0), absent-or-given (row .seller) (k .1))) (t .rows) a) h (s .named);
-        rests-given = all-weaker (Used (v .book .next)) (λ o. Given reading h (o .number)) (λ o k. given-used (o .number) (k .0) (k .1)) (v .book .orders) (s .orderly .used);
-        uncrossed = s .orderly .uncrossed }
+          (λ row k. (absent-or-given (row .buyer) (k .0), absent-or-given (row .seller) (k .1))) (t .rows) a) h (s .named);
+      rests-given = all-weaker (Used (v .book .next)) (λ o. Given reading h (o .number)) (λ o k. given-used (o .number) (k .0) (k .1)) (v .book .orders) (s .orderly .used);
+      uncrossed = s .orderly .uncrossed;
+    }
 
   fresh-stands : (v : View) → v ≡ fresh (v .product) (v .bands) → Standing [] v
   fresh-stands v e = subst (Standing []) (sym e) (record {
-      conserved = λ n q h. absurd (none-entered n q h);
-      numbered = λ n low high. absurd (omega arith);
-      no-other = λ n h. absurd h;
-      named = tt;
-      orderly = record { started = omega arith; used = tt; bounded = record { small = tt; few = omega arith }; uncrossed = tt } })
+    conserved = λ n q h. absurd (none-entered n q h);
+    numbered = λ n low high. absurd (omega arith);
+    no-other = λ n h. absurd h;
+    named = tt;
+    orderly = record { started = omega arith; used = tt; bounded = record { small = tt; few = omega arith }; uncrossed = tt };
+  })
     where
       none-entered : (n q : ℕ) → Entered reading [] n q → ⊥
       none-entered n q h = entered-given h
@@ -128,9 +139,9 @@ module _ {Message : Type 0} (reading : Message → Result Call Refusal) where
     follows-keeps t u v s f =
         let k = takes-keeps shares laws u (t .room) (reading (t .message)) (f .ending) s (f .allowed) in
         let k₁ : Keeps (u .book) (t .rows) (entries-of (reading (t .message)) (close u (t .room) (f .ending) .answer)) (close u (t .room) (f .ending) .after .book) =
-          subst (λ rows. Keeps (u .book) rows (entries-of (reading (t .message)) (close u (t .room) (f .ending) .answer)) (close u (t .room) (f .ending) .after .book)) (sym (f .reported)) k in
+        subst (λ rows. Keeps (u .book) rows (entries-of (reading (t .message)) (close u (t .room) (f .ending) .answer)) (close u (t .room) (f .ending) .after .book)) (sym (f .reported)) k in
         let k₂ : Keeps (u .book) (t .rows) (entries reading t) (close u (t .room) (f .ending) .after .book) =
-          subst (λ answer. Keeps (u .book) (t .rows) (entries-of (reading (t .message)) answer) (close u (t .room) (f .ending) .after .book)) (sym (f .answered)) k₁ in
+        subst (λ answer. Keeps (u .book) (t .rows) (entries-of (reading (t .message)) answer) (close u (t .room) (f .ending) .after .book)) (sym (f .answered)) k₁ in
         subst (λ w. Keeps (u .book) (t .rows) (entries reading t) (w .book)) (sym (f .left)) k₂
 
     stands : {h : List (Turn Message)} {v : View} → Reached reading shares h v → Standing h v

@@ -58,8 +58,9 @@ report-keeps v room c e s k =
     let reported : Outcome View = record { answer = Ok (acceptance-numbers (e .accepted)); rows = e .rows ++ blank (room - length (e .rows)); after = e .after } in
     let kept : Bool → Outcome View = λ b. cond b (refuse v room refusal.ReportFull) reported in
     elim (ltb room (length (e .rows))) as (λ b. Keeps (v .book) (kept b .rows) (entries-of (Ok c) (kept b .answer)) (kept b .after .book)) [
-      true ↦ keeps-still (v .book) room s
-    | false ↦ keeps-padded (v .book) (e .rows) (entry-of c (acceptance-numbers (e .accepted) .0)) (e .after .book) (room - length (e .rows)) k ]
+      | true ↦ keeps-still (v .book) room s
+      | false ↦ keeps-padded (v .book) (e .rows) (entry-of c (acceptance-numbers (e .accepted) .0)) (e .after .book) (room - length (e .rows)) k
+    ]
 
 close-keeps : (v : View) (room : ℕ) (c : Call) (e : Ending View) → Orderly (v .book) → Done v c e →
     Keeps (v .book) (close v room e .rows) (entries-of (Ok c) (close v room e .answer)) (close v room e .after .book)

@@ -11,3 +11,4 @@ pub mod BookCalls
 pub mod Venues
 pub mod Sessions
 pub mod Figures
+pub mod Laws
