@@ -9,3 +9,4 @@ pub mod Cancelling
 pub mod Entering
 pub mod Taking
 pub mod Sessions
+pub mod Unique

@@ -12,3 +12,4 @@ pub mod Venues
 pub mod Sessions
 pub mod Figures
 pub mod Laws
+pub mod Unique
