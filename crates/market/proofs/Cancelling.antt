@@ -1,13 +1,13 @@
 -- Cancellations: what is taken out of the book is what the rows say.
-use mathlib.Core.Path.{_≡_, refl, sym, ap, subst, _∙_}
+use mathlib.Core.Path.{_≡_, refl, ap, subst}
 use mathlib.Core.List.{List, [], _∷_, _++_, map}
-use mathlib.Core.Bool.{Bool, true, false, cond, not, _&&_, _||_}
-use Prim.Native.Nat.{ℕ, suc, _+_, _<_, _≤_}
+use mathlib.Core.Bool.{Bool, true, false, cond, not}
+use Prim.Native.Nat.{ℕ, _+_, _<_, _≤_}
 use native.Mathlib.Omega.{arith}
 use lib.Dec.{eqb}
 use lib.ListN.{length}
 use Rattle.std.specs.shelf.Lists.{All, kept-by}
-use Rattle.std.proofs.shelf.Elements.{all-append, all-kept-by, all-weaker}
+use Rattle.std.proofs.shelf.Elements.{all-append, all-kept-by}
 use Rattle.std.proofs.shelf.Lists.{length-append}
 use Rattle.market.specs.declared.order.Order.{Order}
 use Rattle.market.specs.declared.phase.Withdrawal.{Withdrawal}
@@ -16,7 +16,7 @@ use Rattle.market.specs.declared.side.Side.{Side}
 use Rattle.market.specs.declared.side.Side.the-variants.{Buy, Sell}
 use Rattle.market.specs.Acceptances.{acceptance-numbers}
 use Rattle.market.specs.BookCalls.{BookState, Cancels, Cancels.taken-out, leaves, withdrawn}
-use Rattle.market.specs.Endings.{Effect, Ending, refused, done}
+use Rattle.market.specs.Endings.{Ending, refused, done}
 use Rattle.market.specs.Orders.{quantity-of}
 use Rattle.market.specs.Prices.{opposite}
 use Rattle.market.specs.Rows.{buyer-of, cancel-row}

@@ -1,14 +1,13 @@
 -- An order that arrives: what it has is what it trades, what is cancelled of it and what rests.
-use mathlib.Core.Path.{_≡_, refl, sym, ap, subst, _∙_}
-use mathlib.Core.Logic.{_⊎_, inl, inr}
-use mathlib.Core.List.{List, [], _∷_, _++_}
+use mathlib.Core.Path.{_≡_, refl, sym, ap}
+use mathlib.Core.Logic.{inl, inr}
+use mathlib.Core.List.{List, [], _∷_}
 use mathlib.Core.Bool.{Bool, true, false, cond}
-use Prim.Native.Nat.{ℕ, _+_, _-_, _<_, _≤_}
+use Prim.Native.Nat.{ℕ, _+_, _<_, _≤_}
 use native.Mathlib.Omega.{arith}
 use lib.Dec.{eqb}
-use lib.ListN.{length}
 use Rattle.std.specs.shelf.Lists.{All}
-use Rattle.std.proofs.shelf.Elements.{all-append, all-push, all-weaker}
+use Rattle.std.proofs.shelf.Elements.{all-push, all-weaker}
 use Rattle.std.proofs.shelf.Lists.{length-push}
 use Rattle.std.proofs.shelf.Tests.{cases-eq}
 use Rattle.std.proofs.shelf.Ways.{tells}
@@ -17,15 +16,14 @@ use Rattle.market.specs.declared.arrival.Arrival.{Arrival}
 use Rattle.market.specs.declared.order.Order.{Order}
 use Rattle.market.specs.declared.row.Row.{Row}
 use Rattle.market.specs.BookCalls.{BookState, Enters, Enters.no-number, Enters.whole, Enters.rests, Enters.no-room, Enters.cut, Enters.killed}
-use Rattle.market.specs.Endings.{Effect, Ending, refused, done}
+use Rattle.market.specs.Endings.{Ending}
 use Rattle.market.specs.Matching.{Match}
 use Rattle.market.specs.Orders.{quantity-of, sized, arriving}
 use Rattle.market.specs.Rows.{cancel-row}
-use Rattle.market.specs.Sessions.{is-trade, is-cancellation, counted, resting, Entry}
-use Rattle.market.proofs.Asking.{Bounded}
+use Rattle.market.specs.Sessions.{is-trade, counted, resting, Entry}
 use Rattle.market.proofs.Cancelling.{Ended, cancel-gone, cancel-below}
-use Rattle.market.proofs.Crossing.{Uncrossed, uncrossed-last}
-use Rattle.market.proofs.Keeping.{Used, Orderly, numbers-below, orderly-thins, one, Keeps}
+use Rattle.market.proofs.Crossing.{uncrossed-last}
+use Rattle.market.proofs.Keeping.{Used, Orderly, numbers-below, orderly-thins, one}
 use Rattle.market.proofs.Matches.{match-all, match-length, match-below, match-cancels-none, match-clear, match-own, match-other}
 use Rattle.market.proofs.Sums.{gone, gone-++, resting-++, resting-below, Numbers-below}
 

@@ -10,3 +10,4 @@ pub mod Entering
 pub mod Taking
 pub mod Sessions
 pub mod Unique
+pub mod Endings

@@ -1,18 +1,18 @@
 -- Along a match nothing is lost, and what stands in the book stays what it was.
-use mathlib.Core.Path.{_≡_, refl, sym, ap, _∙_}
-use mathlib.Core.List.{List, [], _∷_, _++_}
-use mathlib.Core.Bool.{Bool, true, false, cond}
-use Prim.Native.Nat.{ℕ, _+_, _-_, _<_, _≤_, min}
+use mathlib.Core.Path.{_≡_, refl}
+use mathlib.Core.List.{List}
+use mathlib.Core.Bool.{Bool}
+use Prim.Native.Nat.{ℕ, _+_, _<_, _≤_}
 use native.Mathlib.Omega.{arith}
 use lib.ListN.{length}
-use Rattle.std.specs.shelf.Lists.{All, kept-by}
+use Rattle.std.specs.shelf.Lists.{All}
 use Rattle.std.proofs.shelf.Elements.{all-append, all-kept-by}
-use Rattle.rules.specs.Domain.{total, Laws}
+use Rattle.rules.specs.Domain.{Laws}
 use Rattle.market.specs.declared.order.Order.{Order}
 use Rattle.market.specs.declared.price.Price.{Price}
 use Rattle.market.specs.declared.row.Row.{Row}
-use Rattle.market.specs.Levels.{in-level, None-within, reduced, after-fill, still-open}
-use Rattle.market.specs.Matching.{facing, given, divided, Match, Match.filled, Match.no-more, Match.fill}
+use Rattle.market.specs.Levels.{in-level, None-within, reduced}
+use Rattle.market.specs.Matching.{facing, divided, Match, Match.filled, Match.no-more, Match.fill}
 use Rattle.market.specs.Orders.{lot-book}
 use Rattle.market.specs.Prices.{opposite}
 use Rattle.market.specs.Rows.{fill-rows}

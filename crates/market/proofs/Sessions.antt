@@ -1,6 +1,6 @@
 -- The law over sessions, by induction over the turns, under any rule that keeps its laws.
-use mathlib.Core.Path.{_≡_, refl, sym, ap, subst, _∙_}
-use mathlib.Core.Logic.{_⊎_, inl, inr}
+use mathlib.Core.Path.{_≡_, refl, sym, subst}
+use mathlib.Core.Logic.{inl, inr}
 use mathlib.Core.List.{List, [], _∷_}
 use mathlib.Core.Bool.{Bool}
 use Prim.Native.Nat.{ℕ, _+_, _<_, _≤_}
@@ -11,17 +11,14 @@ use Rattle.std.proofs.shelf.Elements.{all-weaker}
 use Rattle.std.proofs.shelf.Tests.{cases-eq}
 use Rattle.rules.specs.Domain.{Laws}
 use Rattle.market.specs.declared.call.Call.{Call}
-use Rattle.market.specs.declared.order.Order.{Order}
 use Rattle.market.specs.declared.refusal.Refusal.{Refusal}
-use Rattle.market.specs.declared.row.Row.{Row}
 use Rattle.market.specs.declared.row.RowKind.{RowKind}
-use Rattle.market.specs.BookCalls.{BookState}
-use Rattle.market.specs.Endings.{Ending, close, Follows}
+use Rattle.market.specs.Endings.{close, Follows}
 use Rattle.market.specs.Lists.{Any}
-use Rattle.market.specs.Sessions.{Turn, is-trade, is-cancellation, over, resting, Entry, entries-of, entries, Given, Entered, Entered.first, Entered.earlier, Reached, Reached.built, Reached.turn, Absent-or-given, Sound}
+use Rattle.market.specs.Sessions.{Turn, is-trade, is-cancellation, over, resting, entries-of, entries, Given, Entered, Entered.first, Entered.earlier, Reached, Reached.built, Reached.turn, Absent-or-given, Sound}
 use Rattle.market.specs.Venues.{View, fresh, Takes}
-use Rattle.market.proofs.Keeping.{Used, Orderly, numbers-below, gives-later, gives-only, gives-others-none, gives-own, gives-newest, arrived, Keeps}
-use Rattle.market.proofs.Sums.{gone, Numbers-below, counted-below, resting-below}
+use Rattle.market.proofs.Keeping.{Used, Orderly, numbers-below, gives-later, gives-only, gives-others-none, gives-own, gives-newest, Keeps}
+use Rattle.market.proofs.Sums.{Numbers-below, counted-below, resting-below}
 use Rattle.market.proofs.Taking.{takes-keeps}
 
 any-weaker : {X : Type 0} (P Q : X → Type 0) → ((x : X) → P x → Q x) → (xs : List X) → Any P xs → Any Q xs

@@ -1,6 +1,6 @@
 -- An order with another quantity is in all else the same.
 use mathlib.Core.Path.{_≡_, refl}
-use Prim.Native.Nat.{ℕ, _-_}
+use Prim.Native.Nat.{ℕ}
 use Rattle.market.specs.declared.order.Lot.{Lot}
 use Rattle.market.specs.declared.order.Lot.the-variants.{Outright, Combined}
 use Rattle.market.specs.declared.order.Order.{Order}

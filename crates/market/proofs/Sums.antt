@@ -1,7 +1,7 @@
 -- Sums over lists: what rows and a book come to for one order.
-use mathlib.Core.Path.{_≡_, refl, sym, ap, _∙_}
+use mathlib.Core.Path.{_≡_, refl}
 use mathlib.Core.List.{List, [], _∷_, _++_}
-use mathlib.Core.Bool.{Bool, true, false, cond, _&&_, _||_}
+use mathlib.Core.Bool.{Bool, cond, _&&_}
 use Prim.Native.Nat.{ℕ, zero, suc, _+_, _<_, _≤_}
 use native.Mathlib.Omega.{arith}
 use lib.Dec.{eqb}
@@ -12,7 +12,7 @@ use Rattle.market.specs.declared.row.Row.{Row}
 use Rattle.market.specs.declared.row.RowKind.{RowKind}
 use Rattle.market.specs.Lists.{sumOf}
 use Rattle.market.specs.Orders.{quantity-of}
-use Rattle.market.specs.Rows.{blank, blank-row}
+use Rattle.market.specs.Rows.{blank}
 use Rattle.market.specs.Sessions.{is-trade, is-cancellation, names, counted, resting}
 
 pub sumOf-++ : {X : Type 0} (f : X → ℕ) (xs ys : List X) → sumOf f (xs ++ ys) ≡ sumOf f xs + sumOf f ys

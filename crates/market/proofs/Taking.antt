@@ -1,19 +1,19 @@
 -- Whatever a message says, its call keeps the book orderly and loses nothing.
-use mathlib.Core.Path.{_≡_, refl, sym, ap, subst, _∙_}
-use mathlib.Core.List.{List, [], _∷_, _++_}
-use mathlib.Core.Bool.{Bool, true, false, cond, _&&_}
-use Prim.Native.Nat.{ℕ, _+_, _-_, _≤_}
+use mathlib.Core.Path.{_≡_, refl}
+use mathlib.Core.List.{List, _∷_, _++_}
+use mathlib.Core.Bool.{Bool, true, false, cond}
+use Prim.Native.Nat.{ℕ, _-_, _≤_}
 use native.Mathlib.Omega.{arith}
 use lib.Dec.{leb, ltb}
 use lib.ListN.{length}
 use Rattle.std.specs.declared.option.Option.{Option}
-use Rattle.std.specs.declared.option.Option.the-variants.{Some, None}
+use Rattle.std.specs.declared.option.Option.the-variants.{None}
 use Rattle.std.specs.declared.result.Result.{Result}
-use Rattle.std.specs.declared.result.Result.the-variants.{Ok, Err}
+use Rattle.std.specs.declared.result.Result.the-variants.{Ok}
 use Rattle.std.proofs.shelf.Tests.{and-parts, leb-true}
 use Rattle.rules.specs.Domain.{Laws}
 use Rattle.market.specs.declared.call.Call.{Call}
-use Rattle.market.specs.declared.call.Call.the-variants.{Enter, Amend, Cancel, Quote, Define, Switch}
+use Rattle.market.specs.declared.call.Call.the-variants.{Enter, Cancel, Switch}
 use Rattle.market.specs.declared.call.Duration.{Duration}
 use Rattle.market.specs.declared.price.Price.{Price}
 use Rattle.market.specs.declared.refusal.Refusal.{Refusal}
@@ -23,7 +23,7 @@ use Rattle.market.specs.Acceptances.{acceptance-numbers}
 use Rattle.market.specs.BookCalls.{BookState, withdrawn}
 use Rattle.market.specs.Endings.{Effect, Ending, refused, done, Outcome, refuse, report, close}
 use Rattle.market.specs.Rows.{blank}
-use Rattle.market.specs.Sessions.{Entry, entry-of, entries-of}
+use Rattle.market.specs.Sessions.{entry-of, entries-of}
 use Rattle.market.specs.Venues.{View, fault, topmost, unless, between, trading, known, band-of, withdraws, in-phase, at-book, Does, Does.at-fault, Does.enters, Does.cancels, Does.switches, Takes, Takes.unread, Takes.read}
 use Rattle.market.proofs.Cancelling.{Ended, cancels-keep, withdrawn-keeps}
 use Rattle.market.proofs.Entering.{enters-keeps}

@@ -1,13 +1,13 @@
 -- A match has one end, and so has a call.
-use mathlib.Core.Path.{_≡_, refl, sym, ap, ap₂, subst, _∙_}
-use mathlib.Core.Logic.{_⊎_, inl, inr}
+use mathlib.Core.Path.{_≡_, refl, sym, ap, ap₂, subst}
+use mathlib.Core.Logic.{inl, inr}
 use mathlib.Core.List.{List, [], _∷_, _++_}
-use mathlib.Core.Bool.{Bool, true, false, cond}
-use Prim.Native.Nat.{ℕ, _+_, _-_, _<_, _≤_}
+use mathlib.Core.Bool.{true, false}
+use Prim.Native.Nat.{ℕ, _+_, _-_, _<_}
 use native.Mathlib.Omega.{arith}
 use Rattle.std.specs.shelf.Lists.{All}
 use Rattle.std.proofs.shelf.Signed.{ints}
-use Rattle.std.proofs.shelf.Tests.{true≢false, both-ways}
+use Rattle.std.proofs.shelf.Tests.{both-ways}
 use Rattle.market.specs.declared.book_id.BookId.{BookId}
 use Rattle.market.specs.declared.order.Order.{Order}
 use Rattle.market.specs.declared.price.Price.{Price}
@@ -83,7 +83,10 @@ module _ (shares : List ℕ → ℕ → List ℕ) (o : Order) where
       let s = more rows₂ f₂ q₂ os₂ (subst (λ x. Goes-on f q os x rows₂ f₂ q₂ os₂) e m) in
       record {
         rows-are = ap₂ (λ x l. fill-rows f (o .number) (facing o x os) (divided shares o x os q) ++ l) (sym e) (s .rows-are);
-        fill-is = s .fill-is; left-is = s .left-is; book-is = s .book-is }
+        fill-is = s .fill-is;
+        left-is = s .left-is;
+        book-is = s .book-is;
+      }
 
   pub match-unique : {f q : ℕ} {os : List Order} {rows : List Row} {f′ q′ : ℕ} {os′ : List Order} → Match shares o f q os rows f′ q′ os′ →
       {rows₂ : List Row} {f₂ q₂ : ℕ} {os₂ : List Order} → Match shares o f q os rows₂ f₂ q₂ os₂ → Same rows rows₂ f′ f₂ q′ q₂ os′ os₂
