@@ -1,0 +1,8 @@
+pub mod Bounds
+pub mod Best
+pub mod Shares
+pub mod Reports
+pub mod Matched
+pub mod Settling
+pub mod Closing
+pub mod Finding
