@@ -1,5 +1,5 @@
 -- A line's refusal has number 1 or 2, and a place within the line.
-use mathlib.Core.Path.{_≡_}
+use mathlib.Core.Path.{_≡_, sym, subst}
 use mathlib.Core.Bool.{Bool, true, false, cond}
 use mathlib.Core.List.{List, [], _∷_}
 use Prim.Native.Nat.{ℕ, suc, _+_, _<_, _≤_}
@@ -55,7 +55,7 @@ module _ {X : Type 0} (form : List (List ℕ) → Form X) (line : List ℕ) wher
   from-place None x u = tt
   from-place (Some p) x u = (omega arith, omega arith, u)
 
-  pub line-refusal : Line-refusal (read-line form line)
+  line-refusal : Line-refusal (read-line form line)
   line-refusal =
       let fs = fields-of line in
       let most = leading-le-length allowed (take 1200 line) in
@@ -66,3 +66,6 @@ module _ {X : Type 0} (form : List (List ℕ) → Form X) (line : List ℕ) wher
       (further (0 + length fs) 1201 (misfit (form fs .kinds) fs 0)
       (let s = ltb-false _ _ e in let l = fields-length line in omega arith)
       (misfit-place (form fs .kinds) fs 0)))
+
+  pub refused-by : (e : Refusal) → Err e ≡ read-line form line → Line-refusal {X = X} (Err e)
+  refused-by e h = subst Line-refusal (sym h) line-refusal
