@@ -1,16 +1,14 @@
 -- Elements read from a count and two runs of fields.
-use mathlib.Core.Path.{_≡_, refl, sym, _∙_, ap, subst}
-use mathlib.Core.Bool.{Bool, true, false, cond}
+use mathlib.Core.Path.{_≡_, refl, _∙_, ap}
+use mathlib.Core.Bool.{true}
 use mathlib.Core.List.{List, [], _∷_, _++_}
-use Prim.Native.Nat.{ℕ, zero, suc, _+_, _-_, _<_, _≤_}
-use native.Mathlib.Omega.{arith}
+use Prim.Native.Nat.{ℕ, _+_, _-_, _≤_}
 use native.Mathlib.Nat.{sub-zero}
 use lib.ListN.{length, take, drop, replicate}
 use borrow.Rule.Slice.PartMut.{postOf}
 use Rattle.std.specs.declared.option.Option.{Option}
-use Rattle.std.specs.declared.option.Option.the-variants.{Some, None}
+use Rattle.std.specs.declared.option.Option.the-variants.{None}
 use Rattle.std.proofs.shelf.Lists.{take-replicate, drop-replicate, length-replicate}
-use Rattle.std.proofs.shelf.Ways.{tells}
 use Rattle.line.specs.Numbers.{decimal}
 use Rattle.line.specs.Bytes.{first, others}
 use Rattle.line.specs.Kinds.{Kind, fits, misfit, opens, none-left}

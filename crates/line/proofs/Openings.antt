@@ -51,6 +51,9 @@ pub record Begun (line : List ℕ) (s : Cursor) : Type 0 where
   pub all : rest s ≡ fields-of line
   pub zero : s .index ≡ 0
 
+pub begun : (line : List ℕ) (s : Cursor) (n : ℕ) → n ≡ clean line → length line ≤ n → (rest s ≡ fields-of line) × (s .index ≡ 0) → Begun line s
+begun line s n e h r = record { whole = omega arith; all = r .0; zero = r .1 }
+
 module _ (line : List ℕ) (s t : Cursor) (b : Begun line s) where
   -- the first field is no letter
   pub no-letter : (e : Refusal) → Took lone-capital code s (Err e) t → Err e ≡ line-call line

@@ -11,7 +11,7 @@ use Rattle.market.specs.declared.product.Product.the-variants.{Futures, Options
 use Rattle.line.specs.declared.bands.BuildLine.{BuildLine}
 use Rattle.line.specs.Bytes.{letter, others}
 use Rattle.line.specs.Numbers.{decimal, code}
-use Rattle.line.specs.Kinds.{Kind, letter-among, plain-number, number-within, Form, says, field-at}
+use Rattle.line.specs.Kinds.{letter-among, plain-number, number-within, Form, says, field-at}
 use Rattle.line.specs.CallLines.{each}
 
 -- futures, options

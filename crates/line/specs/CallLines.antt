@@ -18,7 +18,7 @@ use Rattle.market.specs.declared.side.Side.{Side}
 use Rattle.market.specs.declared.side.Side.the-variants.{Buy, Sell}
 use Rattle.line.specs.Bytes.{letter, first, others}
 use Rattle.line.specs.Numbers.{decimal, signed, code}
-use Rattle.line.specs.Kinds.{Kind, letter-among, plain-number, signed-number, number-within, Form, says, field-at}
+use Rattle.line.specs.Kinds.{letter-among, plain-number, signed-number, number-within, Form, says, field-at}
 
 -- a buyer's letter, then a seller's
 abbrev pub side-letters : List ℕ

@@ -13,7 +13,7 @@ use Rattle.market.specs.declared.refusal.Refusal.{Refusal}
 use Rattle.market.specs.declared.refusal.Refusal.the-variants.{Field as refused-field}
 use Rattle.line.specs.Bytes.{letter, fields-of, first, others}
 use Rattle.line.specs.Numbers.{unsigned, minus, decimal, lone-capital, code}
-use Rattle.line.specs.Kinds.{opens, none-left}
+use Rattle.line.specs.Kinds.{opens, none-left, Form, read-as}
 use Rattle.line.specs.declared.cursor.Cursor.{Cursor}
 use Rattle.line.specs.declared.cursor.Placed.{Placed}
 use Rattle.line.specs.declared.field.Field.{Field}
@@ -36,6 +36,10 @@ left line at = cond (leb at (length line)) (fields-of (drop at line)) []
 -- the fields left to a cursor
 abbrev pub rest : Cursor → List (List ℕ)
 rest c = left (c .line .now) (c .at)
+
+-- the fields left to a cursor, read by a form
+abbrev pub read-rest : {X : Type 0} → (List (List ℕ) → Form X) → Cursor → Result X Refusal
+read-rest form c = read-as (form (rest c)) (rest c) (c .index)
 
 -- one field taken, with its place in the line
 abbrev pub Next : Cursor → Option Placed → Cursor → Type 0

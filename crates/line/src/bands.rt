@@ -1,8 +1,8 @@
 // The line that builds a venue, with a price band for each instrument.
 ghost use mathlib.Core.Path.{_≡_};
-ghost use Rattle.line.specs.Kinds.{plain-number, read-as};
+ghost use Rattle.line.specs.Kinds.{plain-number};
 ghost use Rattle.line.specs.BuildLines.{with-low, with-high, build-form};
-ghost use Rattle.line.specs.Cursors.{rest};
+ghost use Rattle.line.specs.Cursors.{read-rest};
 ghost use Rattle.line.specs.Fills.{Filled, Filled-twice};
 use crate::cursor::Cursor;
 use market::product::Band;
@@ -43,7 +43,7 @@ fn read_bands(fields: &mut Cursor<'_>, bands: &mut [Band]) -> Result<(), Refusal
 }
 
 pub(crate) fn read_build_fields(fields: &mut Cursor<'_>) -> Result<BuildLine, Refusal>
-    ensures { λ r. ⌜ r ≡ read-as (build-form (rest (now (fields .entry)))) (rest (now (fields .entry))) (now (fields .entry) .index) ⌝ }
+    ensures { λ r. ⌜ r ≡ read-rest build-form (now (fields .entry)) ⌝ }
 {
     let product = fields.product()?;
     let count = fields.number_within(1, 64)?;

@@ -1,8 +1,8 @@
 // The line that defines a combination.
 ghost use mathlib.Core.Path.{_≡_};
-ghost use Rattle.line.specs.Kinds.{plain-number, signed-number, read-as};
+ghost use Rattle.line.specs.Kinds.{plain-number, signed-number};
 ghost use Rattle.line.specs.CallLines.{with-instrument, with-ratio, define-form};
-ghost use Rattle.line.specs.Cursors.{rest};
+ghost use Rattle.line.specs.Cursors.{read-rest};
 ghost use Rattle.line.specs.Fills.{Filled, Filled-twice};
 use crate::cursor::Cursor;
 use market::call::Call;
@@ -36,7 +36,7 @@ fn read_legs(fields: &mut Cursor<'_>, legs: &mut [Leg]) -> Result<(), Refusal>
 
 // The fields after the opening letter.
 pub(crate) fn read_define(fields: &mut Cursor<'_>) -> Result<Call, Refusal>
-    ensures { λ r. ⌜ r ≡ read-as (define-form (rest (now (fields .entry)))) (rest (now (fields .entry))) (now (fields .entry) .index) ⌝ }
+    ensures { λ r. ⌜ r ≡ read-rest define-form (now (fields .entry)) ⌝ }
 {
     let participant = fields.number()?;
     let count = fields.number_within(2, 10)?;

@@ -4,11 +4,10 @@ ghost use Prim.Native.Nat.{_≤_};
 ghost use lib.ListN.{length};
 ghost use Rattle.std.specs.shelf.Lists.{leading};
 ghost use Rattle.line.specs.Bytes.{allowed, longest, clean};
-ghost use Rattle.line.specs.Kinds.{read-as};
 ghost use Rattle.line.specs.CallLines.{call-form, enter-form, amend-form, cancel-form, quote-form, switch-form};
 ghost use Rattle.line.specs.BuildLines.{build-form};
 ghost use Rattle.line.specs.Verdicts.{line-call, build-line, Judged};
-ghost use Rattle.line.specs.Cursors.{rest};
+ghost use Rattle.line.specs.Cursors.{read-rest};
 use crate::bands::BuildLine;
 use crate::bands::read_build_fields;
 use crate::cursor::Cursor;
@@ -17,7 +16,7 @@ use market::call::Call;
 use market::refusal::Refusal;
 
 fn read_enter(fields: &mut Cursor<'_>) -> Result<Call, Refusal>
-    ensures { λ r. ⌜ r ≡ read-as (enter-form (rest (now (fields .entry)))) (rest (now (fields .entry))) (now (fields .entry) .index) ⌝ }
+    ensures { λ r. ⌜ r ≡ read-rest enter-form (now (fields .entry)) ⌝ }
 {
     let participant = fields.number()?;
     let book = fields.number()?;
@@ -37,7 +36,7 @@ fn read_enter(fields: &mut Cursor<'_>) -> Result<Call, Refusal>
 }
 
 fn read_amend(fields: &mut Cursor<'_>) -> Result<Call, Refusal>
-    ensures { λ r. ⌜ r ≡ read-as (amend-form (rest (now (fields .entry)))) (rest (now (fields .entry))) (now (fields .entry) .index) ⌝ }
+    ensures { λ r. ⌜ r ≡ read-rest amend-form (now (fields .entry)) ⌝ }
 {
     let participant = fields.number()?;
     let number = fields.number()?;
@@ -53,7 +52,7 @@ fn read_amend(fields: &mut Cursor<'_>) -> Result<Call, Refusal>
 }
 
 fn read_cancel(fields: &mut Cursor<'_>) -> Result<Call, Refusal>
-    ensures { λ r. ⌜ r ≡ read-as (cancel-form (rest (now (fields .entry)))) (rest (now (fields .entry))) (now (fields .entry) .index) ⌝ }
+    ensures { λ r. ⌜ r ≡ read-rest cancel-form (now (fields .entry)) ⌝ }
 {
     let participant = fields.number()?;
     let number = fields.number()?;
@@ -65,7 +64,7 @@ fn read_cancel(fields: &mut Cursor<'_>) -> Result<Call, Refusal>
 }
 
 fn read_quote(fields: &mut Cursor<'_>) -> Result<Call, Refusal>
-    ensures { λ r. ⌜ r ≡ read-as (quote-form (rest (now (fields .entry)))) (rest (now (fields .entry))) (now (fields .entry) .index) ⌝ }
+    ensures { λ r. ⌜ r ≡ read-rest quote-form (now (fields .entry)) ⌝ }
 {
     let participant = fields.number()?;
     let book = fields.number()?;
@@ -85,7 +84,7 @@ fn read_quote(fields: &mut Cursor<'_>) -> Result<Call, Refusal>
 }
 
 fn read_switch(fields: &mut Cursor<'_>) -> Result<Call, Refusal>
-    ensures { λ r. ⌜ r ≡ read-as (switch-form (rest (now (fields .entry)))) (rest (now (fields .entry))) (now (fields .entry) .index) ⌝ }
+    ensures { λ r. ⌜ r ≡ read-rest switch-form (now (fields .entry)) ⌝ }
 {
     let event = fields.event()?;
     fields.end()?;

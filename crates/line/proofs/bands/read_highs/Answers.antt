@@ -1,4 +1,3 @@
-use mathlib.Core.Path.{refl, sym, _∙_, ap}
 use native.Mathlib.Omega.{arith}
 use lib.ListN.{getD}
 use Rattle.line.specs.BuildLines.{no-band}

@@ -1,7 +1,5 @@
-use mathlib.Core.Path.{_≡_, sym, _∙_}
-use mathlib.Core.Bool.{true, false}
+use mathlib.Core.Path.{sym, _∙_}
 use native.Mathlib.Omega.{arith}
-use lib.ListN.{getD}
 use Rattle.line.specs.Bytes.{allowed}
 use Rattle.std.proofs.shelf.Sums.{leading-drop-yes, leading-drop-no, leading-drop-all}
 use Rattle.line.proofs.reader.allowed_len.Needs as need
