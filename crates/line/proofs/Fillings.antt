@@ -11,7 +11,7 @@ use Rattle.std.proofs.shelf.Lists.{take-more, drop-more, set-at, getD-at, appen
 use Rattle.line.specs.Bytes.{first, others}
 use Rattle.line.specs.Kinds.{Kind, fits, misfit, opens}
 use Rattle.line.specs.Cursors.{rest}
-use Rattle.line.specs.CallLines.{each}
+use Rattle.line.specs.Runs.{each}
 use Rattle.line.specs.declared.cursor.Cursor.{Cursor}
 
 pub length-each : {X : Type 0} (f : X → List ℕ → X) (ls : List X) (fs : List (List ℕ)) → length (each f ls fs) ≡ length ls

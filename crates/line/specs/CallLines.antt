@@ -1,11 +1,10 @@
 -- The lines of the calls: which fields follow the opening letter, and what they say.
 use mathlib.Core.Bool.{cond}
-use mathlib.Core.List.{List, [], _∷_, _++_}
-use Prim.Native.Nat.{ℕ, _-_}
+use mathlib.Core.List.{List, [], _∷_}
+use Prim.Native.Nat.{ℕ}
 use lib.Chars.{codes}
 use lib.Dec.{eqb}
 use lib.IntN.{pos}
-use lib.ListN.{drop, replicate}
 use Rattle.market.specs.declared.call.Call.{Call}
 use Rattle.market.specs.declared.call.Call.the-variants.{Enter, Amend, Cancel, Quote, Define, Switch}
 use Rattle.market.specs.declared.call.Duration.{Duration}
@@ -19,6 +18,7 @@ use Rattle.market.specs.declared.side.Side.the-variants.{Buy, Sell}
 use Rattle.line.specs.Bytes.{letter, first, others}
 use Rattle.line.specs.Numbers.{decimal, signed, code}
 use Rattle.line.specs.Kinds.{letter-among, plain-number, signed-number, number-within, Form, says, field-at}
+use Rattle.line.specs.Runs.{two-runs, from-runs}
 
 -- a buyer's letter, then a seller's
 abbrev pub side-letters : List ℕ
@@ -48,11 +48,6 @@ event-of f = cond (eqb (code f) (letter "O")) Open (cond (eqb (code f) (letter "
 abbrev pub price-of : List ℕ → Price
 price-of f = record { 0 = signed f }
 
--- each element with what a field of its own says
-abbrev pub each : {X : Type 0} → (X → List ℕ → X) → List X → List (List ℕ) → List X
-each f [] fs = []
-each f (x ∷ xs) fs = f x (first fs) ∷ each f xs (others fs)
-
 -- a leg with its instrument
 abbrev pub with-instrument : Leg → List ℕ → Leg
 with-instrument l f = record { instrument = decimal f; ratio = l .ratio }
@@ -65,9 +60,9 @@ with-ratio l f = record { instrument = l .instrument; ratio = signed f }
 abbrev pub no-leg : Leg
 no-leg = record { instrument = 0; ratio = pos 0 }
 
--- k legs from k instruments and then k ratios
+-- k legs from k instruments and then k ratios, in an array of 10
 abbrev pub legs-of : ℕ → List (List ℕ) → List Leg
-legs-of k fs = each with-ratio (each with-instrument (replicate k no-leg) fs) (drop k fs)
+legs-of k fs = from-runs 10 no-leg with-instrument with-ratio k fs
 
 -- E: participant, book, side, quantity, price, duration
 abbrev pub enter-form : List (List ℕ) → Form Call
@@ -96,8 +91,8 @@ quote-form fs =
 -- D: participant, the number k of legs, k instruments, k ratios
 abbrev pub define-form : List (List ℕ) → Form Call
 define-form fs =
-    says (plain-number ∷ number-within 2 10 ∷ (replicate (decimal (field-at 1 fs)) plain-number ++ (replicate (decimal (field-at 1 fs)) signed-number ++ [])))
-    (Define (decimal (field-at 0 fs)) (decimal (field-at 1 fs)) (legs-of (decimal (field-at 1 fs)) (others (others fs)) ++ replicate (10 - decimal (field-at 1 fs)) no-leg))
+    says (plain-number ∷ number-within 2 10 ∷ two-runs (decimal (field-at 1 fs)) plain-number signed-number)
+    (Define (decimal (field-at 0 fs)) (decimal (field-at 1 fs)) (legs-of (decimal (field-at 1 fs)) (others (others fs))))
 
 -- P: event
 abbrev pub switch-form : List (List ℕ) → Form Call

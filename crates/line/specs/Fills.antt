@@ -9,7 +9,7 @@ use Rattle.std.specs.declared.result.Result.the-variants.{Ok, Err}
 use Rattle.market.specs.declared.refusal.Refusal.{Refusal}
 use Rattle.market.specs.declared.refusal.Refusal.the-variants.{Field}
 use Rattle.line.specs.Kinds.{Kind, misfit}
-use Rattle.line.specs.CallLines.{each}
+use Rattle.line.specs.Runs.{each}
 use Rattle.line.specs.Cursors.{rest}
 use Rattle.line.specs.declared.cursor.Cursor.{Cursor}
 

@@ -1,6 +1,7 @@
 pub mod Bytes
 pub mod Numbers
 pub mod Kinds
+pub mod Runs
 pub mod CallLines
 pub mod BuildLines
 pub mod Verdicts
