@@ -1,16 +1,14 @@
 -- The bytes of a line, and the letter that opens a call.
 use mathlib.Core.Path.{_≡_, refl, sym, _∙_, ap}
 use mathlib.Core.Bool.{true, false}
-use mathlib.Core.Logic.{⊎-elim}
 use mathlib.Core.List.{List, [], _∷_}
-use Prim.Native.Nat.{ℕ, _<_, _≤_, min}
+use Prim.Native.Nat.{ℕ, _<_, _≤_}
 use native.Mathlib.Omega.{arith}
 use lib.Dec.{ltb}
-use lib.ListN.{length, take}
+use lib.ListN.{length}
 use Rattle.std.specs.declared.result.Result.{Result}
 use Rattle.std.specs.declared.result.Result.the-variants.{Ok, Err}
-use Rattle.std.proofs.shelf.Lists.{take-all}
-use Rattle.std.proofs.shelf.Tests.{cases-lt, le-ltb, lt-ltb, cond-true, cond-false}
+use Rattle.std.proofs.shelf.Tests.{le-ltb, lt-ltb, cond-true, cond-false}
 use Rattle.market.specs.declared.call.Call.{Call}
 use Rattle.market.specs.declared.refusal.Refusal.{Refusal}
 use Rattle.market.specs.declared.refusal.Refusal.the-variants.{Byte, Field}
@@ -21,9 +19,6 @@ use Rattle.line.specs.CallLines.{call-letters, form-of-letter, call-form}
 use Rattle.line.specs.Verdicts.{read-line, line-call}
 use Rattle.line.specs.Cursors.{rest, Took}
 use Rattle.line.specs.declared.cursor.Cursor.{Cursor}
-
-pub take-min : (n : ℕ) (xs : List ℕ) → take (min (length xs) n) xs ≡ take n xs
-take-min n xs = ⊎-elim (λ h. let e : min (length xs) n ≡ n = omega arith in ap (λ k. take k xs) e) (λ h. let e : min (length xs) n ≡ length xs = omega arith in ap (λ k. take k xs) e ∙ take-all (length xs) xs (omega arith) ∙ sym (take-all n xs h)) (cases-lt n (length xs))
 
 module _ {X : Type 0} (form : List (List ℕ) → Form X) (line : List ℕ) where
   -- a byte is at fault

@@ -102,7 +102,7 @@ switch-form fs = says (letter-among event-letters ∷ []) (Switch (event-of (fie
 abbrev pub call-letters : List ℕ
 call-letters = codes "EACQDP"
 
--- the form of the fields after the opening letter
+-- the form of the fields after the opening letter; the last is that of P, since a letter of no call is refused
 abbrev pub form-of-letter : ℕ → List (List ℕ) → Form Call
 form-of-letter c fs =
     cond (eqb c (letter "E")) (enter-form fs)

@@ -23,6 +23,11 @@ use Rattle.line.specs.declared.field.Field.the-variants.{Letter, Number, Bad}
 abbrev pub solid : ℕ → Bool
 solid b = not (eqb b (letter " "))
 
+-- the value of bytes that pass a test for numbers, or nothing
+abbrev pub Valued : (List ℕ → Bool) → List ℕ → Option ℕ → Type 0
+Valued p bs None = p bs ≡ false
+Valued p bs (Some n) = (p bs ≡ true) × (n ≡ decimal bs) × (n < 1000000000)
+
 -- the bytes of a field, as they are read
 abbrev pub Reads : List ℕ → Field → Type 0
 Reads bs (Letter c) = (lone-capital bs ≡ true) × (c ≡ code bs)
@@ -52,3 +57,8 @@ Next s (Some p) t =
 abbrev pub Took : {X : Type 0} → (List ℕ → Bool) → (List ℕ → X) → Cursor → Result X Refusal → Cursor → Type 0
 Took p value s (Ok v) t = (opens p (rest s) ≡ true) × (v ≡ value (first (rest s))) × (rest t ≡ others (rest s)) × (t .index ≡ s .index + 1)
 Took p value s (Err e) t = (opens p (rest s) ≡ false) × (e ≡ refused-field (s .index))
+
+-- no field is left, or the next is refused as surplus
+abbrev pub Ended : {X : Type 0} → Cursor → Result X Refusal → Type 0
+Ended s (Ok u) = none-left (rest s) ≡ true
+Ended s (Err e) = (none-left (rest s) ≡ false) × (e ≡ refused-field (s .index))

@@ -1,11 +1,8 @@
 // One field of a line: a letter, a number, or bytes that are neither.
-ghost use mathlib.Core.Path.{_≡_};
-ghost use mathlib.Core.Bool.{true, false};
-ghost use Prim.Native.Nat.{_<_, _≤_};
+ghost use Prim.Native.Nat.{_≤_};
 ghost use lib.ListN.{length};
-ghost use Rattle.std.specs.Options.{Cases};
-ghost use Rattle.line.specs.Numbers.{digits, decimal, unsigned};
-ghost use Rattle.line.specs.Cursors.{Reads};
+ghost use Rattle.line.specs.Numbers.{digits, unsigned};
+ghost use Rattle.line.specs.Cursors.{Valued, Reads};
 
 #[derive(Clone, Copy)]
 pub(crate) enum Field<'a> {
@@ -17,7 +14,7 @@ pub(crate) enum Field<'a> {
 // The value of up to nine digits, or nothing where a byte is no digit.
 fn all_digits(bytes: &[u8]) -> Option<u32>
     requires { ⌜ length (now bytes) ≤ 9 ⌝ }
-    ensures { λ r. ⌜ Cases r (digits (now (bytes .entry)) ≡ false) (λ n. (digits (now (bytes .entry)) ≡ true) × (n ≡ decimal (now (bytes .entry))) × (n < 1000000000)) ⌝ }
+    ensures { λ r. ⌜ Valued digits (now (bytes .entry)) r ⌝ }
 {
     let mut n: u32 = 0;
     for b in bytes {
@@ -31,7 +28,7 @@ fn all_digits(bytes: &[u8]) -> Option<u32>
 
 // The value of a number without sign.
 fn magnitude(bytes: &[u8]) -> Option<u32>
-    ensures { λ r. ⌜ Cases r (unsigned (now (bytes .entry)) ≡ false) (λ n. (unsigned (now (bytes .entry)) ≡ true) × (n ≡ decimal (now (bytes .entry))) × (n < 1000000000)) ⌝ }
+    ensures { λ r. ⌜ Valued unsigned (now (bytes .entry)) r ⌝ }
 {
     let Some((first, rest)) = bytes.split_first() else {
         return None;

@@ -10,6 +10,7 @@ ghost use Rattle.line.specs.Verdicts.{line-call, build-line, Judged};
 ghost use Rattle.line.specs.Cursors.{read-rest};
 use crate::bands::BuildLine;
 use crate::bands::read_build_fields;
+use crate::clipping::front;
 use crate::cursor::Cursor;
 use crate::legs::read_define;
 use market::call::Call;
@@ -115,7 +116,7 @@ fn clean_len(line: &[u8]) -> usize
     ensures within { λ r. ⌜ r ≤ longest ⌝ }
     ensures value { λ r. ⌜ r ≡ clean (now (line .entry)) ⌝ }
 {
-    allowed_len(&line[0..line.len().min(1200)])
+    allowed_len(front(line, 1200))
 }
 
 pub(crate) fn read_call(line: &[u8]) -> Result<Call, Refusal>

@@ -1,17 +1,14 @@
 // The steps of a cursor over the fields of a line.
 ghost use mathlib.Core.Path.{_≡_};
-ghost use mathlib.Core.Bool.{true, false};
 ghost use Prim.Native.Nat.{_≤_};
 ghost use lib.ListN.{length};
-ghost use Rattle.std.specs.Results.{Cases};
 ghost use Rattle.std.specs.shelf.Lists.{leading};
-ghost use Rattle.market.specs.declared.refusal.Refusal.the-variants.{Field as refused-field};
 ghost use Rattle.line.specs.Bytes.{fields-of, longest};
 ghost use Rattle.line.specs.Numbers.{unsigned, decimal, signed, lone-capital, code};
-ghost use Rattle.line.specs.Kinds.{fits, letter-among, signed-number, number-within, none-left};
+ghost use Rattle.line.specs.Kinds.{fits, letter-among, signed-number, number-within};
 ghost use Rattle.line.specs.CallLines.{price-of, side-of, side-letters, duration-of, duration-letters, event-of, event-letters};
 ghost use Rattle.line.specs.BuildLines.{product-of, product-letters};
-ghost use Rattle.line.specs.Cursors.{solid, rest, Next, Took};
+ghost use Rattle.line.specs.Cursors.{solid, rest, Next, Took, Ended};
 use crate::cursor::Cursor;
 use crate::cursor::Placed;
 use crate::field::Field;
@@ -184,7 +181,7 @@ impl<'a> Cursor<'a> {
 
     // No field is left.
     pub(crate) fn end(&self) -> Result<(), Refusal>
-        ensures { λ r. ⌜ Cases r (λ _. none-left (rest (now (self .entry))) ≡ true) (λ e. (none-left (rest (now (self .entry))) ≡ false) × (e ≡ refused-field (now (self .entry) .index))) ⌝ }
+        ensures { λ r. ⌜ Ended (now (self .entry)) r ⌝ }
     {
         if self.at > self.line.len() {
             Ok(())
