@@ -1,0 +1,12 @@
+// Lines of bytes, read into calls, or refused with the place at fault.
+mod bands;
+mod check;
+mod clipping;
+mod cursor;
+mod field;
+mod legs;
+mod reader;
+mod walk;
+
+pub use check::line_check;
+pub use clipping::clip;
