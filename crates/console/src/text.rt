@@ -6,11 +6,11 @@ ghost use Rattle.std.specs.Vec.{made};
 ghost use Rattle.std.specs.Written.{decimal};
 ghost use Rattle.market.specs.Refusals.{layer-number};
 ghost use Rattle.console.specs.Text.{field, price-field, accepted-text, refused-text, answer-text, row-text, report-text};
+use market::price::Amount;
 use market::refusal::Layer;
 use market::refusal::Refusal;
 use market::refusal::RefusalCode;
 use market::row::Row;
-use market::price::Amount;
 use std::alloc::AllocError;
 use std::alloc::Global;
 
@@ -57,7 +57,10 @@ fn layer_number(layer: Layer) -> u32
 }
 
 // Appends the line of an answer.
-pub fn write_answer(out: &mut Vec<u8>, answer: Result<(u32, u32), Refusal>) -> Result<(), AllocError>
+pub fn write_answer(
+    out: &mut Vec<u8>,
+    answer: Result<(u32, u32), Refusal>,
+) -> Result<(), AllocError>
     ensures { λ r. ⌜ made r (λ _. vec-items (now (out .exit)) ≡ vec-items (now (out .entry)) ++ answer-text answer) ⌝ }
 {
     match answer {

@@ -55,7 +55,10 @@ impl LineCutter {
         ensures lines { λ _. ⌜ Lines-part ⌝ }
     {
         let line = Vec::with_capacity(heap, KEPT)?;
-        Ok(LineCutter { line, complete: false })
+        Ok(LineCutter {
+            line,
+            complete: false,
+        })
     }
 
     // Takes from a block up to and with the first newline, or all of it.
@@ -76,7 +79,10 @@ impl LineCutter {
         self.begin();
         keep(&mut self.line, &block[0..n]);
         self.complete = complete;
-        Cut { used: past(n, complete), complete }
+        Cut {
+            used: past(n, complete),
+            complete,
+        }
     }
 
     // A new line begins after a complete one.

@@ -19,7 +19,8 @@ returns c =
     let size = simp (toZ-ofZ fits) at (c .unsigned-abs .ensures .value) in
     let put = c .in-Continue-write-decimal .ensures tt in
     elim (c .if-price-lt0 .came) [
-      then-price-lt0·in-Continue-push-2 w ↦ price-below v z k (simp (toZ-ofZ fits) at (w .if-price-lt0 .taken)) size (c .in-Continue-push .ensures tt .items)
+      | then-price-lt0·in-Continue-push-2 w ↦ price-below v z k (simp (toZ-ofZ fits) at (w .if-price-lt0 .taken)) size (c .in-Continue-push .ensures tt .items)
           (ap vec-items (w .out-is) ∙ w .in-Continue-push-2 .ensures tt .items) put
-    | else-price-lt0 w ↦ price-above v z k (simp (toZ-ofZ fits) at (w .if-price-lt0 .left)) size
-          (ap vec-items (w .out-is) ∙ c .in-Continue-push .ensures tt .items) put ]
+      | else-price-lt0 w ↦ price-above v z k (simp (toZ-ofZ fits) at (w .if-price-lt0 .left)) size
+          (ap vec-items (w .out-is) ∙ c .in-Continue-push .ensures tt .items) put
+    ]

@@ -21,8 +21,8 @@ returns c =
       closed = less-found block n e;
       count = used-is block n e (c .past .ensures);
       line = c .keep .ensures .items
-        ∙ ap (λ t. start (kept (c .begin .last .self) ++ t)) (part-before block n e)
-        ∙ ap (λ p. start (p ++ before-newline block)) (c .begin .ensures .items);
+          ∙ ap (λ t. start (kept (c .begin .last .self) ++ t)) (part-before block n e)
+          ∙ ap (λ p. start (p ++ before-newline block)) (c .begin .ensures .items);
       state = refl;
       memory = c .keep .ensures .capacity ∙ c .begin .ensures .capacity;
     }

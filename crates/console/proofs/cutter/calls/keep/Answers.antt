@@ -8,9 +8,10 @@ use Rattle.console.proofs.cutter.calls.keep.Needs as need
 
 pub loop-i-again : need.loop-i-again
 loop-i-again c = (
-    push-more (vec-items (c .args .line .now)) (c .args .more .now) (c .loop-i .i) (omega arith) (c .loop-i .inv .0) (c .push-reserved .ensures .items),
-    omega arith,
-    c .push-reserved .ensures .capacity ∙ c .loop-i .inv .2)
+  push-more (vec-items (c .args .line .now)) (c .args .more .now) (c .loop-i .i) (omega arith) (c .loop-i .inv .0) (c .push-reserved .ensures .items),
+  omega arith,
+  c .push-reserved .ensures .capacity ∙ c .loop-i .inv .2,
+)
 
 pub returns : need.returns
 returns c =
