@@ -2,18 +2,17 @@
 use mathlib.Core.Path.{_≡_, refl, sym, _∙_, ap}
 use mathlib.Core.Bool.{Bool, true, false, cond}
 use mathlib.Core.List.{List, [], _∷_, _++_}
-use Prim.Native.Nat.{ℕ, suc, _+_, _≤_, _<_}
+use Prim.Native.Nat.{ℕ, _+_}
 use native.Mathlib.Nat.{add-zero}
 use native.Mathlib.Numerals.{add-one}
-use native.Mathlib.Omega.{arith}
 use lib.ListN.{length, take}
-use Rattle.std.proofs.shelf.Lists.{append-assoc, append-nil, map-append}
+use Rattle.std.proofs.shelf.Lists.{append-nil, map-append}
 use Rattle.std.specs.shelf.Lists.{map}
 use Rattle.console.specs.declared.cutter.Cut.{Cut}
 use Rattle.console.specs.declared.cutter.LineCutter.{LineCutter}
 use Rattle.console.specs.Lines.{closed-after, open-after, closed-lines, open-line, has-newline, before-newline}
 use Rattle.console.specs.Cuts.{start, kept, pending, handed-by, Fed, Cuts}
-use Rattle.console.proofs.Newlines.{closed-on, open-on, closed-plain, open-plain, before-plain, take-before, take-found, take-again, before-le, found-less}
+use Rattle.console.proofs.Newlines.{closed-on, open-on, closed-plain, open-plain, before-plain, take-before, take-found, take-again}
 
 -- ---- bytes x with no newline, alone and with a newline after them
 

@@ -10,7 +10,7 @@ use lib.ListN.{length, getD, take, drop}
 use Rattle.std.proofs.shelf.Lists.{append-assoc, append-nil, take-all, take-more, at-drop-more, at-drop-all}
 use Rattle.std.proofs.shelf.Tests.{cases-lt}
 use Rattle.std.proofs.shelf.Ways.{tells}
-use Rattle.std.specs.shelf.Lists.{All, joined, map}
+use Rattle.std.specs.shelf.Lists.{All, joined}
 use Rattle.console.specs.Lines.{closed-after, open-after, closed-lines, open-line, has-newline, before-newline, Parted}
 
 -- ---- fronts

@@ -1,6 +1,6 @@
-// The text of answers and reports, appended to a buffer.
+// The text of answers and reports, appended to a buffer; where memory runs out, a part of a text may stand.
 ghost use mathlib.Core.Path.{_≡_};
-ghost use mathlib.Core.List.{[], _∷_, _++_};
+ghost use mathlib.Core.List.{_++_};
 ghost use Rattle.std.specs.Of.Vec.{vec-items};
 ghost use Rattle.std.specs.Vec.{made};
 ghost use Rattle.std.specs.Written.{decimal};
@@ -46,6 +46,7 @@ fn write_price(out: &mut Vec<u8>, price: Amount) -> Result<(), AllocError>
     Ok(())
 }
 
+// The number that an answer tells a layer by.
 fn layer_number(layer: Layer) -> u32
     ensures { λ r. ⌜ r ≡ layer-number layer ⌝ }
 {

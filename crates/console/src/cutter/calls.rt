@@ -14,6 +14,7 @@ use crate::cutter::LineCutter;
 use std::alloc::AllocError;
 use std::alloc::Global;
 
+// How many bytes of a line are kept.
 const KEPT: usize = 1201;
 
 // How many bytes stand before the first newline.
@@ -50,6 +51,7 @@ fn past(n: usize, complete: bool) -> usize
 }
 
 impl LineCutter {
+    // A cutter that was fed nothing; no later call takes memory.
     pub fn new(heap: Global) -> Result<LineCutter, AllocError>
         ensures fed { λ r. ⌜ made r (λ c. Fed c [] []) ⌝ }
         ensures lines { λ _. ⌜ Lines-part ⌝ }
@@ -71,6 +73,7 @@ impl LineCutter {
         self.cut(block)
     }
 
+    // One cut.
     fn cut(&mut self, block: &[u8]) -> Cut
         ensures { λ r. ⌜ Cuts (now (self .entry)) (now (block .entry)) r (now (self .exit)) ⌝ }
     {

@@ -1,5 +1,5 @@
 use mathlib.Core.Path.{ap, _∙_}
-use mathlib.Core.List.{[], _∷_, _++_}
+use mathlib.Core.List.{_++_}
 use Rattle.console.specs.Text.{field}
 use Rattle.std.specs.Of.Vec.{vec-items}
 use Rattle.console.proofs.Appends.{then}

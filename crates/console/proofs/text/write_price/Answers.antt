@@ -1,11 +1,9 @@
 use mathlib.Core.Path.{ap, _∙_}
-use mathlib.Core.List.{_++_}
 use borrow.Author.Needs.{needs}
 use mir.Facts.{toZ-ofZ}
 use mir.Syntax.{w64}
 use mir.Val.{SFits}
 use Rattle.std.specs.Of.Vec.{vec-items}
-use Rattle.std.specs.Written.{decimal}
 use Rattle.console.proofs.Appends.{price-below, price-above}
 use Rattle.console.proofs.text.write_price.Needs as need
 use Rattle.console.proofs.text.write_price.Needs.{then-price-lt0·in-Continue-push-2, else-price-lt0}

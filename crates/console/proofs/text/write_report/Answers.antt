@@ -1,4 +1,4 @@
-use mathlib.Core.Path.{_≡_, sym, _∙_}
+use mathlib.Core.Path.{sym, _∙_}
 use Rattle.std.specs.Of.Vec.{vec-items}
 use Rattle.console.proofs.Appends.{report-blank, report-more, report-all}
 use Rattle.console.proofs.text.write_report.Needs as need

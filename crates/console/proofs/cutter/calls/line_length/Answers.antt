@@ -1,4 +1,3 @@
-use mathlib.Core.Path.{_≡_}
 use native.Mathlib.Omega.{arith}
 use Rattle.console.proofs.Newlines.{length-found, length-more, length-all}
 use Rattle.console.proofs.cutter.calls.line_length.Needs as need
