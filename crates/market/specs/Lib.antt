@@ -9,6 +9,7 @@ pub mod Matching
 pub mod Endings
 pub mod BookCalls
 pub mod Venues
+pub mod Bands
 pub mod Sessions
 pub mod Figures
 pub mod Laws
