@@ -6,3 +6,5 @@ pub mod Openings
 pub mod Judging
 pub mod Places
 pub mod Clips
+pub mod Counts
+pub mod Sessions

@@ -7,3 +7,4 @@ pub mod BuildLines
 pub mod Verdicts
 pub mod Cursors
 pub mod Fills
+pub mod Gateways

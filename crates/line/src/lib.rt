@@ -4,6 +4,7 @@ mod check;
 mod clipping;
 mod cursor;
 mod field;
+pub mod gateway;
 mod legs;
 mod reader;
 mod walk;

@@ -1,0 +1,93 @@
+// One line, one call.
+ghost use mathlib.Core.Path.{_≡_};
+ghost use Prim.Native.Nat.{_≤_};
+ghost use lib.ListN.{length};
+ghost use Rattle.std.specs.Vec.{made};
+ghost use Rattle.std.specs.declared.result.Result.the-variants.{Err};
+ghost use Rattle.market.specs.Endings.{Follows};
+ghost use Rattle.market.specs.Rows.{blank};
+ghost use Rattle.market.specs.Venues.{Takes};
+ghost use Rattle.gate.specs.Views.{view};
+ghost use Rattle.line.specs.Gateways.{Opens-as, Opens, Goes-on, turn-of};
+ghost use Rattle.line.specs.Verdicts.{line-call};
+use crate::bands::BuildLine;
+use crate::reader::read_build;
+use crate::reader::read_call;
+use gate::venue::Venue;
+use market::acceptance::Acceptance;
+use market::refusal::Refusal;
+use market::row::Row;
+use rules::rule::AllocationRule;
+use super::Gateway;
+use super::Opening;
+use std::alloc::AllocError;
+use std::alloc::Global;
+
+// Builds a venue as the line's fields say.
+fn open<R: AllocationRule>(
+    heap: Global,
+    rule: R,
+    request: &BuildLine,
+) -> Result<Result<Opening<R>, Refusal>, AllocError>
+where
+    R: Drop,
+    requires { ⌜ now request .count ≤ 64 ⌝ }
+    ensures { λ r. ⌜ made r (λ b. Opens-as rule (now (request .entry)) b) ⌝ }
+{
+    let count = request.count as usize;
+    let bands = &request.bands[0..count];
+    match Venue::build(heap, rule, request.product, bands)? {
+        Ok(venue) => {
+            let answer = Acceptance::Built { instruments: request.count }.numbers();
+            Ok(Ok(Opening { gateway: Gateway { venue }, answer }))
+        }
+        Err(refusal) => Ok(Err(refusal)),
+    }
+}
+
+// A refusal reports nothing.
+fn refuse(report: &mut [Row], refusal: Refusal) -> Result<(u32, u32), Refusal>
+    ensures answer { λ r. ⌜ r ≡ Err refusal ⌝ }
+    ensures blank { λ r. ⌜ now (report .exit) ≡ blank (length (now (report .entry))) ⌝ }
+{
+    report.fill(Row::blank());
+    Err(refusal)
+}
+
+impl<R: AllocationRule> Gateway<R> {
+    // Builds a venue as the line says, under the rule; want of memory is an error outside the table of refusals.
+    pub fn build(
+        heap: Global,
+        rule: R,
+        line: &[u8],
+    ) -> Result<Result<Opening<R>, Refusal>, AllocError>
+    where
+        R: Drop,
+        ensures { λ r. ⌜ made r (λ b. Opens (R·AllocationRule .shares) rule (now (line .entry)) b) ⌝ }
+    {
+        match read_build(line) {
+            Ok(request) => open(heap, rule, &request),
+            Err(refusal) => Ok(Err(refusal)),
+        }
+    }
+
+    // A line is read, and its call made.
+    fn act(&mut self, line: &[u8], report: &mut [Row]) -> Result<(u32, u32), Refusal>
+        ensures follows { λ r. ⌜ Follows (Takes (R·AllocationRule .shares (now (self .entry) .venue .rule)) (view (now (self .entry) .venue)) (line-call (now (line .entry)))) (view (now (self .entry) .venue)) (length (now (report .entry))) r (now (report .exit)) (view (now (self .exit) .venue)) ⌝ }
+        ensures rule { λ r. ⌜ now (self .exit) .venue .rule ≡ now (self .entry) .venue .rule ⌝ }
+    {
+        match read_call(line) {
+            Ok(call) => self.venue.call(call, report),
+            Err(refusal) => refuse(report, refusal),
+        }
+    }
+
+    // One line of a member, with a report of any length: the answer, all rows and the venue after it are those that the market's rules give, and the law over sessions goes on to hold.
+    pub fn call(&mut self, line: &[u8], report: &mut [Row]) -> Result<(u32, u32), Refusal>
+        ensures follows { λ r. ⌜ Follows (Takes (R·AllocationRule .shares (now (self .entry) .venue .rule)) (view (now (self .entry) .venue)) (line-call (now (line .entry)))) (view (now (self .entry) .venue)) (length (now (report .entry))) r (now (report .exit)) (view (now (self .exit) .venue)) ⌝ }
+        ensures rule { λ r. ⌜ now (self .exit) .venue .rule ≡ now (self .entry) .venue .rule ⌝ }
+        ensures session { λ r. ⌜ Goes-on (R·AllocationRule .shares (now (self .entry) .venue .rule)) (view (now (self .entry) .venue)) (turn-of (now (line .entry)) (length (now (report .entry))) r (now (report .exit))) (view (now (self .exit) .venue)) ⌝ }
+    {
+        self.act(line, report)
+    }
+}
