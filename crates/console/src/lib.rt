@@ -1,3 +1,6 @@
-// What stands around a venue: the text of its answers, and the lines of its input.
+// What stands around a venue: lines cut from its input, and the text of its answers.
+mod answering;
 pub mod cutter;
+mod reader;
+pub mod serving;
 pub mod text;

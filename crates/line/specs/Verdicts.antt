@@ -12,6 +12,7 @@ use Rattle.std.specs.declared.result.Result.{Result}
 use Rattle.std.specs.declared.result.Result.the-variants.{Ok, Err}
 use Rattle.market.specs.Refusals.{refusal-code}
 use Rattle.market.specs.declared.call.Call.{Call}
+use Rattle.market.specs.declared.product.Product.{Product}
 use Rattle.market.specs.declared.refusal.Refusal.{Refusal}
 use Rattle.market.specs.declared.refusal.Refusal.the-variants.{Byte, Field}
 use Rattle.line.specs.Bytes.{allowed, longest, clean, fields-of}
@@ -31,6 +32,11 @@ line-call line = read-line call-form line
 -- what a build line says
 abbrev pub build-line : List ℕ → Result BuildLine Refusal
 build-line line = read-line build-form line
+
+-- the product that a build line names
+abbrev pub product-named : Result BuildLine Refusal → Option Product
+product-named (Ok b) = Some (b .product)
+product-named (Err e) = None
 
 -- 0 for a call, and else the refusal's number times 10,000 and its place
 abbrev pub check-code : Result Call Refusal → ℕ

@@ -11,3 +11,4 @@ mod walk;
 
 pub use check::line_check;
 pub use clipping::clip;
+pub use reader::product_named;

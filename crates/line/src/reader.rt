@@ -6,7 +6,7 @@ ghost use Rattle.std.specs.shelf.Lists.{leading};
 ghost use Rattle.line.specs.Bytes.{allowed, longest, clean};
 ghost use Rattle.line.specs.CallLines.{call-form, enter-form, amend-form, cancel-form, quote-form, switch-form};
 ghost use Rattle.line.specs.BuildLines.{build-form};
-ghost use Rattle.line.specs.Verdicts.{line-call, build-line, Judged};
+ghost use Rattle.line.specs.Verdicts.{line-call, build-line, Judged, product-named};
 ghost use Rattle.line.specs.Cursors.{read-rest};
 use crate::bands::BuildLine;
 use crate::bands::read_build_fields;
@@ -14,6 +14,7 @@ use crate::clipping::front;
 use crate::cursor::Cursor;
 use crate::legs::read_define;
 use market::call::Call;
+use market::product::Product;
 use market::refusal::Refusal;
 
 fn read_enter(fields: &mut Cursor<'_>) -> Result<Call, Refusal>
@@ -149,4 +150,14 @@ pub(crate) fn read_build(line: &[u8]) -> Result<BuildLine, Refusal>
     }
     let mut fields = Cursor::new(line);
     read_build_fields(&mut fields)
+}
+
+// The product that a build line names, where the line can be read.
+pub fn product_named(line: &[u8]) -> Option<Product>
+    ensures { λ r. ⌜ r ≡ product-named (build-line (now (line .entry))) ⌝ }
+{
+    match read_build(line) {
+        Ok(request) => Some(request.product),
+        Err(_) => None,
+    }
 }

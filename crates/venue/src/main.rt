@@ -1,6 +1,7 @@
 // The venue: lines of bytes in, answers and report rows out.
-use std::io;
+use console::serving::serve;
+use std::error::AnyError;
 
-fn main(rt: LibcRuntime) -> io::Result<()> {
-    print!(rt, "")
+fn main(rt: LibcRuntime) -> Result<(), AnyError> {
+    rt.report(serve(&rt))
 }
