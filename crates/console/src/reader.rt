@@ -25,7 +25,12 @@ impl LineReader {
     pub(crate) fn new(heap: Global) -> Result<LineReader, AllocError> {
         let cutter = LineCutter::new(heap)?;
         let block = vec![in heap; 0u8; BLOCK]?;
-        Ok(LineReader { cutter, block, at: 0, end: 0 })
+        Ok(LineReader {
+            cutter,
+            block,
+            at: 0,
+            end: 0,
+        })
     }
 
     // The line that was cut last.
@@ -49,7 +54,11 @@ impl LineReader {
     }
 
     // Cuts the next line; false at the end of the input. All that is to be written goes out before it waits for input.
-    pub(crate) fn next_line(&mut self, rt: &LibcRuntime, out: &mut Vec<u8>) -> Result<bool, AnyError> {
+    pub(crate) fn next_line(
+        &mut self,
+        rt: &LibcRuntime,
+        out: &mut Vec<u8>,
+    ) -> Result<bool, AnyError> {
         for _ in 0..u64::MAX {
             if self.at == self.end {
                 flush(rt, out)?;

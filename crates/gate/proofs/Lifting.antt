@@ -47,8 +47,8 @@ alike-report : (v : View) (room : ℕ) (x : Effect BookState) (y : Effect View) 
 alike-report v room x y accepted rows after = go (ltb room (length (x .rows))) (ltb room (length (y .rows))) (ap (λ rs. ltb room (length rs)) rows)
   where
     go : (s t : Bool) → t ≡ s → Alike v
-      (cond s (refuse (v .book) room refusal.ReportFull) (record { answer = Ok (acceptance-numbers (x .accepted)); rows = x .rows ++ blank (room - length (x .rows)); after = x .after }))
-      (cond t (refuse v room refusal.ReportFull) (record { answer = Ok (acceptance-numbers (y .accepted)); rows = y .rows ++ blank (room - length (y .rows)); after = y .after }))
+        (cond s (refuse (v .book) room refusal.ReportFull) (record { answer = Ok (acceptance-numbers (x .accepted)); rows = x .rows ++ blank (room - length (x .rows)); after = x .after }))
+        (cond t (refuse v room refusal.ReportFull) (record { answer = Ok (acceptance-numbers (y .accepted)); rows = y .rows ++ blank (room - length (y .rows)); after = y .after }))
     go true true e = record { answers = refl; rows = refl; after = refl }
     go false false e = record { answers = ap (λ a. Ok (acceptance-numbers a)) (sym accepted); rows = ap (λ rs. rs ++ blank (room - length rs)) (sym rows); after = sym after }
     go true false e = absurd (let z : _≡_ {A = ℕ} 0 1 = cc in omega arith)
@@ -59,7 +59,7 @@ alike v room (refused e) = record { answers = refl; rows = refl; after = refl }
 alike v room (done x) = alike-report v room x _ refl refl refl
 
 pub lifted : (Allowed : Ending BookState → Type 0) (Allowed′ : Ending View → Type 0) (v : View) (room : ℕ) (answer : Result (ℕ × ℕ) Refusal) (rows : List Row) (m : BookState)
-  → ((e : Ending BookState) → Allowed e → Allowed′ (at-book v e)) → Follows Allowed (v .book) room answer rows m → Follows Allowed′ v room answer rows (with-book v m)
+    → ((e : Ending BookState) → Allowed e → Allowed′ (at-book v e)) → Follows Allowed (v .book) room answer rows m → Follows Allowed′ v room answer rows (with-book v m)
 lifted Allowed Allowed′ v room answer rows m up f =
     let a = alike v room (f .ending) in
     record {
@@ -91,7 +91,8 @@ abbrev effect-of : Withdrawal → BookState → Effect BookState
 effect-of which m = record {
   accepted = Switched (length (kept-by (leaves which) (m .orders)));
   rows = map cancel-row (kept-by (leaves which) (m .orders));
-  after = record { orders = kept-by (λ o. not (leaves which o)) (m .orders); next = m .next } }
+  after = record { orders = kept-by (λ o. not (leaves which o)) (m .orders); next = m .next };
+}
 
 -- an effect on the book, with a change of phase, as an effect on the venue
 abbrev raised : Phase → Effect BookState → View → Effect View
@@ -115,8 +116,7 @@ module _ (v : View) (phase : Phase) (room : ℕ) (x : Effect BookState) (answer 
   seen-done pair is false a′ b′ c′ = (a′, b′, ap (with-book (in-phase v phase)) c′)
 
 module _ (shares : List ℕ → ℕ → List ℕ) (v : View) (w : Event) (phase : Phase) (turn : next-phase (v .phase) w ≡ Some phase) (room : ℕ) (answer : Result (ℕ × ℕ) Refusal) (rows : List Row) (m : BookState)
-  (f : Follows (λ e. e ≡ withdrawn (withdraws w) (v .book)) (v .book) room answer rows m) where
-
+    (f : Follows (λ e. e ≡ withdrawn (withdraws w) (v .book)) (v .book) room answer rows m) where
   abbrev taken : Effect BookState
   taken = effect-of (withdraws w) (v .book)
 

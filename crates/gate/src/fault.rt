@@ -49,7 +49,8 @@ pub(crate) fn within_band(band: Option<Band>, price: Price) -> bool
 {
     match band {
         None => false,
-        Some(band) => i64::from(band.low) <= i64::from(price.0) && i64::from(price.0) <= i64::from(band.high),
+        Some(band) => i64::from(band.low) <= i64::from(price.0)
+            && i64::from(price.0) <= i64::from(band.high),
     }
 }
 
@@ -91,9 +92,11 @@ pub(crate) fn build_fault(bands: &[Band]) -> Option<Refusal>
     ensures { λ r. ⌜ r ≡ build-fault (now (bands .entry)) ⌝ }
 {
     let highs = 2 + bands.len() as u32;
-    topmost(&[
-        first_broken(bands, BandTest::Low, 2),
-        first_broken(bands, BandTest::High, highs),
-        first_broken(bands, BandTest::Order, 2),
-    ])
+    topmost(
+        &[
+            first_broken(bands, BandTest::Low, 2),
+            first_broken(bands, BandTest::High, highs),
+            first_broken(bands, BandTest::Order, 2),
+        ],
+    )
 }

@@ -1,6 +1,6 @@
 // A venue: its product, its phase and bands, its book, and the rule that divides there.
-use book::book::Book;
 use crate::trading::Trading;
+use book::book::Book;
 use market::product::Product;
 use rules::rule::AllocationRule;
 

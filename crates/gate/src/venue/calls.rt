@@ -9,7 +9,7 @@ ghost use Rattle.market.specs.Endings.{Follows};
 ghost use Rattle.market.specs.Rows.{blank};
 ghost use Rattle.market.specs.Venues.{Does, fault};
 ghost use Rattle.gate.specs.Views.{view, Built-with};
-use book::book::Book;
+use super::Venue;
 use crate::fault::between;
 use crate::fault::build_fault;
 use crate::fault::known;
@@ -17,6 +17,7 @@ use crate::fault::topmost;
 use crate::fault::unless;
 use crate::fault::within_band;
 use crate::trading::Trading;
+use book::book::Book;
 use market::arrival::Arrival;
 use market::call::Call;
 use market::counts::Contracts;
@@ -27,7 +28,6 @@ use market::product::Product;
 use market::refusal::Refusal;
 use market::row::Row;
 use rules::rule::AllocationRule;
-use super::Venue;
 use std::alloc::AllocError;
 use std::alloc::Global;
 
@@ -56,9 +56,17 @@ impl<R: AllocationRule> Venue<R> {
         if let Some(refusal) = build_fault(bands) {
             return Ok(Err(refusal));
         }
-        let trading = Trading { phase: Phase::PreOpen, bands: Vec::from_slice(heap, bands)? };
+        let trading = Trading {
+            phase: Phase::PreOpen,
+            bands: Vec::from_slice(heap, bands)?,
+        };
         let book = Book::new(heap)?;
-        Ok(Ok(Venue { book, rule, product, trading }))
+        Ok(Ok(Venue {
+            book,
+            rule,
+            product,
+            trading,
+        }))
     }
 
     // What is refused of an order that is to enter.
@@ -66,13 +74,15 @@ impl<R: AllocationRule> Venue<R> {
         ensures { λ r. ⌜ r ≡ fault (view (now (self .entry))) (Enter (arrival .participant) (arrival .instrument) (arrival .side) (arrival .quantity .0) (arrival .price) (arrival .duration)) ⌝ }
     {
         let band = self.trading.band(arrival.instrument);
-        topmost(&[
-            unless(self.trading.open(), Refusal::Phase),
-            unless(between(1, 999, arrival.participant), Refusal::Participant),
-            unless(known(band), Refusal::Book(2)),
-            unless(between(1, 10_000, arrival.quantity.0), Refusal::Quantity(4)),
-            unless(within_band(band, arrival.price), Refusal::Price(5)),
-        ])
+        topmost(
+            &[
+                unless(self.trading.open(), Refusal::Phase),
+                unless(between(1, 999, arrival.participant), Refusal::Participant),
+                unless(known(band), Refusal::Book(2)),
+                unless(between(1, 10_000, arrival.quantity.0), Refusal::Quantity(4)),
+                unless(within_band(band, arrival.price), Refusal::Price(5)),
+            ],
+        )
     }
 
     fn enter(&mut self, arrival: Arrival, report: &mut [Row]) -> Result<(u32, u32), Refusal>
@@ -89,14 +99,21 @@ impl<R: AllocationRule> Venue<R> {
     fn cancel_fault(&self, participant: u32, number: u32) -> Option<Refusal>
         ensures { λ r. ⌜ r ≡ fault (view (now (self .entry))) (Cancel participant number) ⌝ }
     {
-        topmost(&[
-            unless(self.trading.serving(), Refusal::Phase),
-            unless(between(1, 999, participant), Refusal::Participant),
-            unless(self.book.owns(participant, number), Refusal::Order),
-        ])
+        topmost(
+            &[
+                unless(self.trading.serving(), Refusal::Phase),
+                unless(between(1, 999, participant), Refusal::Participant),
+                unless(self.book.owns(participant, number), Refusal::Order),
+            ],
+        )
     }
 
-    fn cancel(&mut self, participant: u32, number: u32, report: &mut [Row]) -> Result<(u32, u32), Refusal>
+    fn cancel(
+        &mut self,
+        participant: u32,
+        number: u32,
+        report: &mut [Row],
+    ) -> Result<(u32, u32), Refusal>
         ensures follows { λ r. ⌜ Follows (Does (R·AllocationRule .shares (now (self .entry) .rule)) (view (now (self .entry))) (Cancel participant number)) (view (now (self .entry))) (length (now (report .entry))) r (now (report .exit)) (view (now (self .exit))) ⌝ }
         ensures rule { λ r. ⌜ now (self .exit) .rule ≡ now (self .entry) .rule ⌝ }
     {
@@ -124,12 +141,29 @@ impl<R: AllocationRule> Venue<R> {
         ensures rule { λ r. ⌜ now (self .exit) .rule ≡ now (self .entry) .rule ⌝ }
     {
         match call {
-            Call::Enter { participant, book, side, quantity, price, duration } => {
+            Call::Enter {
+                participant,
+                book,
+                side,
+                quantity,
+                price,
+                duration,
+            } => {
                 let quantity = Contracts(quantity);
-                let arrival = Arrival { participant, instrument: book, side, quantity, price, duration };
+                let arrival = Arrival {
+                    participant,
+                    instrument: book,
+                    side,
+                    quantity,
+                    price,
+                    duration,
+                };
                 self.enter(arrival, report)
             }
-            Call::Cancel { participant, number } => self.cancel(participant, number, report),
+            Call::Cancel {
+                participant,
+                number,
+            } => self.cancel(participant, number, report),
             Call::Switch { event } => self.switch(event, report),
             Call::Amend { .. } | Call::Quote { .. } | Call::Define { .. } => {
                 refuse(report, Refusal::NotOffered)

@@ -10,6 +10,8 @@ ghost use Rattle.market.specs.Venues.{Takes};
 ghost use Rattle.gate.specs.Views.{view};
 ghost use Rattle.line.specs.Gateways.{Opens-as, Opens, Goes-on, turn-of};
 ghost use Rattle.line.specs.Verdicts.{line-call};
+use super::Gateway;
+use super::Opening;
 use crate::bands::BuildLine;
 use crate::reader::read_build;
 use crate::reader::read_call;
@@ -18,8 +20,6 @@ use market::acceptance::Acceptance;
 use market::refusal::Refusal;
 use market::row::Row;
 use rules::rule::AllocationRule;
-use super::Gateway;
-use super::Opening;
 use std::alloc::AllocError;
 use std::alloc::Global;
 
@@ -38,8 +38,13 @@ where
     let bands = &request.bands[0..count];
     match Venue::build(heap, rule, request.product, bands)? {
         Ok(venue) => {
-            let answer = Acceptance::Built { instruments: request.count }.numbers();
-            Ok(Ok(Opening { gateway: Gateway { venue }, answer }))
+            let answer = Acceptance::Built {
+                instruments: request.count,
+            }.numbers();
+            Ok(Ok(Opening {
+                gateway: Gateway { venue },
+                answer,
+            }))
         }
         Err(refusal) => Ok(Err(refusal)),
     }

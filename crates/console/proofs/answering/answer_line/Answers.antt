@@ -18,12 +18,12 @@ returns g c =
     let text = vec-items (c .args .out .now) in
     let after = vec-items (c .write-report .last .out) in
     made-weaker (c .write-report .result)
-      (λ _. after ≡ vec-items (c .write-answer .last .out) ++ report-text rows)
-      (λ _. Answered (g .R·AllocationRule .shares (v .rule)) (view v) (c .args .line .now) (length (c .args .report .now)) text after (view (c .call-answer .last .self .venue)))
-      (λ _ e. record {
-        answer = answer;
-        rows = rows;
-        follows = c .call-answer .ensures .follows;
-        written = e ∙ ap (λ (xs : List ℕ). xs ++ report-text rows) (c .in-Continue-write-answer .ensures tt) ∙ append-assoc text (answer-text answer) (report-text rows);
-      })
-      (c .write-report .ensures)
+    (λ _. after ≡ vec-items (c .write-answer .last .out) ++ report-text rows)
+    (λ _. Answered (g .R·AllocationRule .shares (v .rule)) (view v) (c .args .line .now) (length (c .args .report .now)) text after (view (c .call-answer .last .self .venue)))
+    (λ _ e. record {
+      answer = answer;
+      rows = rows;
+      follows = c .call-answer .ensures .follows;
+      written = e ∙ ap (λ (xs : List ℕ). xs ++ report-text rows) (c .in-Continue-write-answer .ensures tt) ∙ append-assoc text (answer-text answer) (report-text rows);
+    })
+    (c .write-report .ensures)

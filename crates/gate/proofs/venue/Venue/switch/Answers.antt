@@ -33,12 +33,12 @@ returns-in-Break-answer g c =
     let t = turned-from (v .phase) w (c .in-Some .phase) (c .in-Some .leaving) (sym (c .turned .ensures) ∙ c .in-Some .is) in
     let m = book-state (c .withdraw .last .self) in
     let f : Follows (λ e. e ≡ withdrawn (withdraws w) (v .book)) (v .book) room (c .withdraw .result) (c .withdraw .last .report) m =
-      subst (λ (x : Withdrawal). Follows (λ e. e ≡ withdrawn x (v .book)) (v .book) room (c .withdraw .result) (c .withdraw .last .report) m) (t .1) (c .withdraw .ensures) in
+    subst (λ (x : Withdrawal). Follows (λ e. e ≡ withdrawn x (v .book)) (v .book) room (c .withdraw .result) (c .withdraw .last .report) m) (t .1) (c .withdraw .ensures) in
     let p = err-from-errBy (c .from-residual .result) (c .from-residual .ensures .1) in
     let same : c .withdraw .result ≡ c .from-residual .result = c .in-Break-answer .was tt ∙ sym (p .1 ∙ ap Err (p .2)) in
     record {
       follows = subst (λ (r : Result (ℕ × ℕ) Refusal). Follows (Does shares v (Switch w)) v room r (c .withdraw .last .report) (with-book v m)) same
-        (switch-refused shares v w (c .in-Some .phase) (t .0) room (c .withdraw .result) (c .withdraw .last .report) m f (c .in-Break-answer .field-0 .0) (c .in-Break-answer .was tt));
+          (switch-refused shares v w (c .in-Some .phase) (t .0) room (c .withdraw .result) (c .withdraw .last .report) m f (c .in-Break-answer .field-0 .0) (c .in-Break-answer .was tt));
       rule = refl;
     }
 
@@ -51,9 +51,9 @@ returns g c =
     let t = turned-from (v .phase) w (c .in-Some .phase) (c .in-Some .leaving) (sym (c .turned .ensures) ∙ c .in-Some .is) in
     let m = book-state (c .withdraw .last .self) in
     let f : Follows (λ e. e ≡ withdrawn (withdraws w) (v .book)) (v .book) room (c .withdraw .result) (c .withdraw .last .report) m =
-      subst (λ (x : Withdrawal). Follows (λ e. e ≡ withdrawn x (v .book)) (v .book) room (c .withdraw .result) (c .withdraw .last .report) m) (t .1) (c .withdraw .ensures) in
+    subst (λ (x : Withdrawal). Follows (λ e. e ≡ withdrawn x (v .book)) (v .book) room (c .withdraw .result) (c .withdraw .last .report) m) (t .1) (c .withdraw .ensures) in
     record {
       follows = subst (λ (r : Result (ℕ × ℕ) Refusal). Follows (Does shares v (Switch w)) v room r (c .withdraw .last .report) (with-book (in-phase v (c .in-Some .phase)) m)) (c .in-Continue-answer .was tt)
-        (switch-done shares v w (c .in-Some .phase) (t .0) room (c .withdraw .result) (c .withdraw .last .report) m f (c .in-Continue-answer .answer) (c .in-Continue-answer .was tt));
+          (switch-done shares v w (c .in-Some .phase) (t .0) room (c .withdraw .result) (c .withdraw .last .report) m f (c .in-Continue-answer .answer) (c .in-Continue-answer .was tt));
       rule = refl;
     }
