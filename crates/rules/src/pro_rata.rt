@@ -3,7 +3,7 @@ ghost use mathlib.Core.Path.{_≡_};
 ghost use Prim.Native.Nat.{ℕ, _<_, _≤_};
 ghost use lib.ListN.{length, getD};
 ghost use Rattle.rules.specs.Domain.{Domain, total};
-ghost use Rattle.rules.specs.ProRata.{parts, one-each, pro-rata};
+ghost use Rattle.rules.specs.ProRata.{parts, one-more, one-each, pro-rata};
 use crate::rule::AllocationRule;
 
 #[derive(Clone, Copy)]
@@ -39,16 +39,22 @@ fn write_parts(quantities: &[u32], give: u32, sum: u32, out: &mut [u32]) -> u32
     given
 }
 
+// One where something is left and the share is below its quantity, else none.
+fn one_more(quantity: u32, share: u32, left: u32) -> u32
+    ensures { λ r. ⌜ r ≡ one-more quantity share left ⌝ }
+{
+    if left > 0 && share < quantity { 1 } else { 0 }
+}
+
 // Adds one to each share that is below its quantity, in order, while something is left.
 fn add_one_each(quantities: &[u32], mut left: u32, out: &mut [u32])
     requires { ⌜ length (now out) ≡ length (now quantities) ⌝ }
     ensures { λ _. ⌜ now (out .exit) ≡ one-each (now (quantities .entry)) (now (out .entry)) left ⌝ }
 {
     for (i, q) in quantities.iter().enumerate() {
-        if left > 0 && out[i] < *q {
-            out[i] += 1;
-            left -= 1;
-        }
+        let more = one_more(*q, out[i], left);
+        out[i] += more;
+        left -= more;
     }
 }
 

@@ -8,7 +8,7 @@ use Rattle.rules.proofs.price_time.PriceTimeRule.divide.Needs as need
 
 pub loop-i-again : need.loop-i-again
 loop-i-again c =
-    write-more (λ xs. price-time xs (c .loop-i .left)) (λ xs. price-time xs (c .loop-i .left - c .min-share .result)) (c .args .quantities .now) (c .loop-i .out) (c .loop-i .i) (c .min-share .result) (omega arith) (omega arith) (price-time-step _ _ _ _ (c .min-share .ensures))
+    write-more (λ xs. price-time xs (c .loop-i .left)) (λ xs. price-time xs (c .loop-i .left - c .share-of-share .result)) (c .args .quantities .now) (c .loop-i .out) (c .loop-i .i) (c .share-of-share .result) (omega arith) (omega arith) (price-time-step _ _ _ _ (c .share-of-share .ensures))
     ∙ c .loop-i .inv
 
 pub returns : need.returns
