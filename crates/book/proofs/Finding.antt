@@ -7,7 +7,7 @@ use native.Mathlib.Numerals.{add-one}
 use Prim.Native.Nat.{ℕ, zero, suc, _+_, _<_}
 use lib.ListN.{length, getD, take, drop}
 use Rattle.std.proofs.shelf.Elements.{all-push, all-append, all-take, all-drop}
-use Rattle.std.proofs.shelf.Lists.{take-more, drop-more, take-append-drop, getD-default}
+use Rattle.std.proofs.shelf.Lists.{take-more, drop-more, take-append-drop}
 use Rattle.std.proofs.shelf.Tests.{cond-true, cond-false}
 use Rattle.std.specs.Holes.{removed}
 use Rattle.std.specs.shelf.Lists.{All}
