@@ -1,5 +1,5 @@
 -- A loop that takes its share from each order of a level.
-use mathlib.Core.Path.{_≡_, refl, sym, _∙_, ap, subst}
+use mathlib.Core.Path.{_≡_, sym, _∙_, ap, subst}
 use mathlib.Core.List.{List, [], _∷_, _++_}
 use mathlib.Core.Bool.{Bool, true, false, cond}
 use mathlib.Core.Logic.{_⊎_, inl, inr}
@@ -19,7 +19,7 @@ use Rattle.market.specs.Orders.{less, quantity-of}
 use Rattle.market.specs.Rows.{fill-rows, some-row, trade-row}
 use Rattle.book.specs.declared.report.Written.{Written}
 use Rattle.book.specs.Reports.{RowsMore}
-use Rattle.book.proofs.Reports.{more-none, more-then}
+use Rattle.book.proofs.Reports.{more-then}
 
 -- the share at j, where the quantity q is the next
 below-next : (ks : List ℕ) (j q : ℕ) (qs : List ℕ) → Below (drop j ks) (q ∷ qs) → (j < length ks) × (getD ks j 0 ≤ q) × Below (drop (j + 1) ks) qs
@@ -41,9 +41,6 @@ module _ (b : BookId) (s : Side) (p : Price) (fill taker : ℕ) where
     pub more : RowsMore w₀ rows₀ told w rows
     pub below : Below (drop j ks) (quantities (level b s p (drop k os)))
     pub long : length os ≡ length os₀
-
-  pub taking-start : (os : List Order) (ks : List ℕ) (w : Written) (rows : List Row) → Below ks (quantities (level b s p os)) → Taking os os ks w rows w rows 0 0
-  taking-start os ks w rows h = record { told = []; orders = refl; rest = refl; more = more-none w rows; below = h; long = refl }
 
   -- the share of the order at k
   pub taking-here : (os : List Order) (ks : List ℕ) (k j : ℕ) (d : Order) → k < length os → test (getD os k d) ≡ true

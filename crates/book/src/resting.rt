@@ -1,6 +1,6 @@
 // The resting orders themselves, in order of arrival.
 ghost use mathlib.Core.Path.{_≡_};
-ghost use Prim.Native.Nat.{ℕ, _<_, _≤_};
+ghost use Prim.Native.Nat.{_<_, _≤_};
 ghost use lib.ListN.{getD, set};
 ghost use ghost.Atoms.{sem};
 ghost use denote.Follow.{follows};
