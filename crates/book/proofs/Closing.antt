@@ -3,7 +3,7 @@ use mathlib.Core.Path.{_≡_, refl, sym, _∙_, ap, subst}
 use mathlib.Core.Bool.{Bool, true, false, not}
 use mathlib.Core.List.{List, [], _∷_, _++_}
 use native.Mathlib.Omega.{arith}
-use Prim.Native.Nat.{ℕ, suc, _+_, _-_, _<_, _≤_}
+use Prim.Native.Nat.{ℕ, suc, _-_, _≤_}
 use lib.ListN.{length, getD, take, drop}
 use Rattle.std.proofs.shelf.Tests.{cond-true, cond-false, lt-ltb, le-ltb}
 use Rattle.std.specs.Holes.{removed}

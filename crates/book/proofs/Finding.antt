@@ -7,16 +7,13 @@ use native.Mathlib.Numerals.{add-one}
 use Prim.Native.Nat.{ℕ, zero, suc, _+_, _<_}
 use lib.ListN.{length, getD, take, drop}
 use Rattle.std.proofs.shelf.Elements.{all-push, all-append, all-take, all-drop}
-use Rattle.std.proofs.shelf.Lists.{take-more, drop-more, take-append-drop, getD-default}
+use Rattle.std.proofs.shelf.Lists.{take-more, drop-more, take-append-drop}
 use Rattle.std.proofs.shelf.Tests.{cond-true, cond-false}
 use Rattle.std.specs.Holes.{removed}
 use Rattle.std.specs.shelf.Lists.{All}
-use Rattle.std.specs.declared.option.Option.{Option}
-use Rattle.std.specs.declared.option.Option.the-variants.{Some, None}
 use Rattle.market.specs.declared.order.Order.{Order}
 use Rattle.market.specs.Orders.{own}
 use Rattle.market.specs.Venues.{owned}
-use Rattle.book.specs.Finding.{Own-found}
 
 module _ (p n : ℕ) where
   pub nobody-owned : (os : List Order) → All (λ o. own p n o ≡ false) os → owned p n os ≡ false
@@ -34,10 +31,6 @@ module _ (p n : ℕ) where
 
   pub not-yet : (os : List Order) (i : ℕ) (d : Order) → i < length os → All (λ o. own p n o ≡ false) (take i os) → own p n (getD os i d) ≡ false → All (λ o. own p n o ≡ false) (take (i + 1) os)
   not-yet os i d lt h no-match = subst (All (λ o. own p n o ≡ false)) (sym (take-more os i d lt)) (all-push (λ o. own p n o ≡ false) (take i os) (getD os i d) h no-match)
-
-  pub found-owned : (os : List Order) (found : Option ℕ) (d : Order) → Own-found p n os found → (yes-or-no : Bool) → ((i : ℕ) → found ≡ Some i → yes-or-no ≡ true) → (found ≡ None → yes-or-no ≡ false) → yes-or-no ≡ owned p n os
-  found-owned os None d h b some none = none refl ∙ sym h
-  found-owned os (Some i) d h b some none = some i refl ∙ sym (owned-at os i d (h .0) (h .1 d))
 
 -- the list around the place i
 pub around : (os : List Order) (i : ℕ) (d : Order) → i < length os → os ≡ take i os ++ (getD os i d ∷ drop (suc i) os)

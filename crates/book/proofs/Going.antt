@@ -1,6 +1,6 @@
 -- A match on its way: whatever it goes on to, the whole is a match from the start.
-use mathlib.Core.Path.{_≡_, refl, sym, _∙_, ap, subst}
-use mathlib.Core.List.{List, [], _∷_, _++_}
+use mathlib.Core.Path.{_≡_, sym, subst}
+use mathlib.Core.List.{List, [], _++_}
 use mathlib.Core.Bool.{true}
 use Prim.Native.Nat.{ℕ, _+_, _-_, _<_}
 use Rattle.std.proofs.shelf.Lists.{append-assoc, append-nil}

@@ -1,16 +1,14 @@
 -- Orders that leave, and orders that stay.
-use mathlib.Core.Path.{_≡_, refl, sym, _∙_, ap, subst}
-use mathlib.Core.Bool.{Bool, true, false, cond, not}
+use mathlib.Core.Path.{_≡_, _∙_, ap}
+use mathlib.Core.Bool.{Bool, true, false}
 use mathlib.Core.List.{List, [], _∷_, _++_}
-use native.Mathlib.Omega.{arith}
-use Prim.Native.Nat.{ℕ, _+_, _<_, _≤_}
+use Prim.Native.Nat.{ℕ, _+_, _<_}
 use lib.ListN.{length, getD, take}
 use Rattle.std.proofs.shelf.Elements.{kept-by-more}
-use Rattle.std.proofs.shelf.Lists.{append-nil, map-append, length-append}
+use Rattle.std.proofs.shelf.Lists.{append-nil, map-append}
 use Rattle.std.proofs.shelf.Tests.{cond-true, cond-false}
 use Rattle.std.specs.shelf.Lists.{kept-by, map}
 use Rattle.market.specs.declared.order.Order.{Order}
-use Rattle.market.specs.declared.row.Row.{Row}
 use Rattle.market.specs.Rows.{cancel-row}
 
 module _ (test : Order → Bool) (os : List Order) (i : ℕ) (d : Order) (lt : i < length os) where
@@ -25,6 +23,3 @@ module _ (test : Order → Bool) (os : List Order) (i : ℕ) (d : Order) (lt : i
 
   pub rows-yes : test here ≡ true → map cancel-row (kept-by test (take (i + 1) os)) ≡ map cancel-row (kept-by test (take i os)) ++ cancel-row here ∷ []
   rows-yes y = ap (map cancel-row) (kept-yes y) ∙ map-append cancel-row (kept-by test (take i os)) (here ∷ [])
-
-pub count-more : {X : Type 0} (xs : List X) (x : X) → length (xs ++ x ∷ []) ≡ length xs + 1
-count-more xs x = length-append xs (x ∷ [])

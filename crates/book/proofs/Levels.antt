@@ -1,16 +1,16 @@
 -- A loop that reads a level, and one that finds the best price.
-use mathlib.Core.Path.{_≡_, refl, sym, _∙_, ap, subst}
+use mathlib.Core.Path.{_≡_, refl, sym}
 use mathlib.Core.List.{List, [], _∷_, _++_}
 use mathlib.Core.Bool.{Bool, true, false, cond}
 use native.Mathlib.Omega.{arith}
-use Prim.Native.Nat.{ℕ, _+_, _<_, _≤_, _*_}
+use Prim.Native.Nat.{ℕ, _+_, _<_}
 use lib.IntN.{pos}
 use lib.ListN.{getD, take, length}
 use Rattle.std.proofs.shelf.Elements.{all-push, all-weaker, kept-by-more}
 use Rattle.std.proofs.shelf.Lists.{take-more, map-append, append-nil}
 use Rattle.std.proofs.shelf.Signed.{ints}
-use Rattle.std.proofs.shelf.Tests.{both-ways, cond-true, cond-false}
-use Rattle.std.specs.shelf.Lists.{All, kept-by, map}
+use Rattle.std.proofs.shelf.Tests.{both-ways}
+use Rattle.std.specs.shelf.Lists.{kept-by, map}
 use Rattle.std.specs.declared.option.Option.{Option}
 use Rattle.std.specs.declared.option.Option.the-variants.{Some, None}
 use Rattle.rules.specs.Domain.{total}
@@ -20,8 +20,7 @@ use Rattle.market.specs.declared.order.Order.{Order}
 use Rattle.market.specs.declared.price.Price.{Price}
 use Rattle.market.specs.declared.side.Side.{Side}
 use Rattle.market.specs.declared.side.Side.the-variants.{Buy, Sell}
-use Rattle.market.specs.Levels.{in-level, level, quantities, Best}
-use Rattle.market.specs.Lists.{Any}
+use Rattle.market.specs.Levels.{in-level, level, quantities}
 use Rattle.market.specs.Orders.{stands, quantity-of}
 use Rattle.market.specs.Prices.{opposite, good}
 use Rattle.book.specs.Best.{better-of, Best-found}

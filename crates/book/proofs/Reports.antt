@@ -1,16 +1,18 @@
 -- Rows told one after another.
-use mathlib.Core.Path.{_≡_, refl, sym, _∙_, ap, subst}
+use mathlib.Core.Path.{_≡_, sym, _∙_, ap, subst}
 use mathlib.Core.List.{List, [], _∷_, _++_}
 use mathlib.Core.Bool.{Bool, true, false}
 use native.Mathlib.Omega.{arith}
-use native.Mathlib.Numerals.{add-one}
 use Prim.Native.Nat.{ℕ, suc, _+_, _-_, _<_, _≤_}
-use lib.ListN.{length, set, replicate}
-use Rattle.std.proofs.shelf.Lists.{append-assoc, append-nil, length-append, length-set, set-at}
+use lib.ListN.{length, set}
+use Rattle.std.proofs.shelf.Lists.{append-assoc, append-nil, length-append, length-replicate, length-set, set-at}
 use Rattle.market.specs.declared.row.Row.{Row}
 use Rattle.market.specs.Rows.{blank, blank-row}
 use Rattle.book.specs.declared.report.Written.{Written}
 use Rattle.book.specs.Reports.{Holds, RowsMore}
+
+pub blank-long : (rows : List Row) (n : ℕ) → rows ≡ blank n → length rows ≡ n
+blank-long rows n e = ap length e ∙ length-replicate n blank-row
 
 -- the first row of zeros is written over
 over-blank : (told : List Row) (n k : ℕ) (row : Row) → k ≡ length told → k < n → set (told ++ blank (n - length told)) k row ≡ (told ++ row ∷ []) ++ blank (n - length (told ++ row ∷ []))

@@ -1,12 +1,11 @@
 -- Each way in which an arriving order is settled.
-use mathlib.Core.Path.{_≡_, refl, sym, _∙_, ap, subst}
+use mathlib.Core.Path.{_≡_, sym, _∙_, ap, subst}
 use mathlib.Core.List.{List, [], _∷_, _++_}
 use native.Mathlib.Omega.{arith}
 use native.Mathlib.Nat.{sub-zero, sub-self}
 use Prim.Native.Nat.{ℕ, _+_, _-_, _<_, _≤_}
 use lib.ListN.{length}
 use Rattle.std.proofs.shelf.Elements.{all-push}
-use Rattle.std.proofs.shelf.Lists.{length-replicate}
 use Rattle.std.specs.Of.Vec.{vec-items, vec-len, vec-cap}
 use Rattle.std.specs.declared.alloc.Global.{Global}
 use Rattle.std.specs.declared.result.Result.the-variants.{Ok, Err}
@@ -17,18 +16,19 @@ use Rattle.market.specs.declared.call.Duration.the-variants.{Day, Immediate, Fi
 use Rattle.market.specs.declared.order.Order.{Order}
 use Rattle.market.specs.declared.refusal.Refusal.the-variants.{BookFull}
 use Rattle.market.specs.declared.row.Row.{Row}
-use Rattle.market.specs.BookCalls.{BookState, Enters, whole, rests, no-room, cut, killed}
+use Rattle.market.specs.BookCalls.{Enters, whole, rests, no-room, cut, killed}
 use Rattle.market.specs.Endings.{done}
 use Rattle.market.specs.Matching.{Match}
 use Rattle.market.specs.Orders.{arriving, sized, quantity-of}
-use Rattle.market.specs.Rows.{blank, blank-row, cancel-row}
+use Rattle.market.specs.Rows.{blank, cancel-row}
 use Rattle.book.specs.declared.report.Written.{Written}
 use Rattle.book.specs.Bounds.{Small, Positive, Bounded}
 use Rattle.book.specs.Reports.{Holds, RowsMore}
 use Rattle.book.specs.Settling.{Settles}
+use Rattle.book.proofs.Reports.{blank-long}
 
 pub blank-all : (rows : List Row) (n : ℕ) → rows ≡ blank n → rows ≡ blank (length rows)
-blank-all rows n e = e ∙ ap blank (sym (ap length e ∙ length-replicate n blank-row))
+blank-all rows n e = e ∙ ap blank (sym (blank-long rows n e))
 
 -- the orders in a vector's memory, one more at the end
 pub bounded-push : (v v′ : Vec Order Global) (o : Order) → Bounded v → vec-items v′ ≡ vec-items v ++ o ∷ [] → vec-len v′ ≡ vec-len v + 1 → vec-cap v′ ≡ vec-cap v → vec-len v < 256 → quantity-of o ≤ 10000 → 0 < quantity-of o → Bounded v′

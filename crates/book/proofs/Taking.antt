@@ -1,5 +1,5 @@
 -- A loop that takes its share from each order of a level.
-use mathlib.Core.Path.{_≡_, refl, sym, _∙_, ap, subst}
+use mathlib.Core.Path.{_≡_, sym, _∙_, ap, subst}
 use mathlib.Core.List.{List, [], _∷_, _++_}
 use mathlib.Core.Bool.{Bool, true, false, cond}
 use mathlib.Core.Logic.{_⊎_, inl, inr}
@@ -14,20 +14,20 @@ use Rattle.market.specs.declared.price.Price.{Price}
 use Rattle.market.specs.declared.row.Row.{Row}
 use Rattle.market.specs.declared.side.Side.{Side}
 use Rattle.market.specs.Levels.{in-level, level, quantities, reduced}
+use Rattle.market.specs.Lists.{Below}
 use Rattle.market.specs.Orders.{less, quantity-of}
 use Rattle.market.specs.Rows.{fill-rows, some-row, trade-row}
 use Rattle.book.specs.declared.report.Written.{Written}
 use Rattle.book.specs.Reports.{RowsMore}
-use Rattle.book.specs.Shares.{Below-each}
-use Rattle.book.proofs.Reports.{more-none, more-then}
+use Rattle.book.proofs.Reports.{more-then}
 
 -- the share at j, where the quantity q is the next
-below-next : (ks : List ℕ) (j q : ℕ) (qs : List ℕ) → Below-each (drop j ks) (q ∷ qs) → (j < length ks) × (getD ks j 0 ≤ q) × Below-each (drop (j + 1) ks) qs
+below-next : (ks : List ℕ) (j q : ℕ) (qs : List ℕ) → Below (drop j ks) (q ∷ qs) → (j < length ks) × (getD ks j 0 ≤ q) × Below (drop (j + 1) ks) qs
 below-next ks j q qs h = go (cases-lt j (length ks))
   where
-    go : (j < length ks) ⊎ (length ks ≤ j) → (j < length ks) × (getD ks j 0 ≤ q) × Below-each (drop (j + 1) ks) qs
-    go (inl lt) = let k : Below-each (getD ks j 0 ∷ drop (j + 1) ks) (q ∷ qs) = subst (λ (ys : List ℕ). Below-each ys (q ∷ qs)) (drop-more ks j 0 lt) h in (lt, k .0, k .1)
-    go (inr ge) = absurd (subst (λ (ys : List ℕ). Below-each ys (q ∷ qs)) (drop-all j ks ge) h)
+    go : (j < length ks) ⊎ (length ks ≤ j) → (j < length ks) × (getD ks j 0 ≤ q) × Below (drop (j + 1) ks) qs
+    go (inl lt) = let k : Below (getD ks j 0 ∷ drop (j + 1) ks) (q ∷ qs) = subst (λ (ys : List ℕ). Below ys (q ∷ qs)) (drop-more ks j 0 lt) h in (lt, k .0, k .1)
+    go (inr ge) = absurd (subst (λ (ys : List ℕ). Below ys (q ∷ qs)) (drop-all j ks ge) h)
 
 module _ (b : BookId) (s : Side) (p : Price) (fill taker : ℕ) where
   abbrev test : Order → Bool
@@ -39,20 +39,17 @@ module _ (b : BookId) (s : Side) (p : Price) (fill taker : ℕ) where
     pub orders : take k os ++ reduced test (drop k os) (drop j ks) ≡ reduced test os₀ ks
     pub rest : told ++ fill-rows fill taker (level b s p (drop k os)) (drop j ks) ≡ fill-rows fill taker (level b s p os₀) ks
     pub more : RowsMore w₀ rows₀ told w rows
-    pub below : Below-each (drop j ks) (quantities (level b s p (drop k os)))
+    pub below : Below (drop j ks) (quantities (level b s p (drop k os)))
     pub long : length os ≡ length os₀
-
-  pub taking-start : (os : List Order) (ks : List ℕ) (w : Written) (rows : List Row) → Below-each ks (quantities (level b s p os)) → Taking os os ks w rows w rows 0 0
-  taking-start os ks w rows h = record { told = []; orders = refl; rest = refl; more = more-none w rows; below = h; long = refl }
 
   -- the share of the order at k
   pub taking-here : (os : List Order) (ks : List ℕ) (k j : ℕ) (d : Order) → k < length os → test (getD os k d) ≡ true
-      → Below-each (drop j ks) (quantities (level b s p (drop k os)))
-      → (j < length ks) × (getD ks j 0 ≤ quantity-of (getD os k d)) × Below-each (drop (j + 1) ks) (quantities (level b s p (drop (k + 1) os)))
+      → Below (drop j ks) (quantities (level b s p (drop k os)))
+      → (j < length ks) × (getD ks j 0 ≤ quantity-of (getD os k d)) × Below (drop (j + 1) ks) (quantities (level b s p (drop (k + 1) os)))
   taking-here os ks k j d lt e h =
       below-next ks j (quantity-of (getD os k d)) (quantities (level b s p (drop (k + 1) os)))
-      (subst (λ (t : Bool). Below-each (drop j ks) (quantities (cond t (getD os k d ∷ level b s p (drop (k + 1) os)) (level b s p (drop (k + 1) os))))) e
-      (subst (λ (ys : List Order). Below-each (drop j ks) (quantities (level b s p ys))) (drop-more os k d lt) h))
+      (subst (λ (t : Bool). Below (drop j ks) (quantities (cond t (getD os k d ∷ level b s p (drop (k + 1) os)) (level b s p (drop (k + 1) os))))) e
+      (subst (λ (ys : List Order). Below (drop j ks) (quantities (level b s p ys))) (drop-more os k d lt) h))
 
   module _ (os₀ os : List Order) (ks : List ℕ) (w₀ : Written) (rows₀ : List Row) (w : Written) (rows : List Row) (k j : ℕ) (d : Order) (lt : k < length os) (t : Taking os₀ os ks w₀ rows₀ w rows k j) where
     abbrev here : Order
@@ -73,7 +70,7 @@ module _ (b : BookId) (s : Side) (p : Price) (fill taker : ℕ) where
           orders = ap (λ (zs : List Order). zs ++ reduced test behind ys) (take-more os k d lt) ∙ append-assoc (take k os) (here ∷ []) (reduced test behind ys) ∙ ap (λ (zs : List Order). take k os ++ zs) (sym r) ∙ t .orders;
           rest = ap (λ (zs : List Order). t .told ++ fill-rows fill taker zs ys) (sym l) ∙ t .rest;
           more = t .more;
-          below = subst (λ (zs : List Order). Below-each ys (quantities zs)) l (t .below);
+          below = subst (λ (zs : List Order). Below ys (quantities zs)) l (t .below);
           long = t .long;
         }
 
@@ -101,7 +98,7 @@ module _ (b : BookId) (s : Side) (p : Price) (fill taker : ℕ) where
           rest = ap (λ (zs : List Order). (t .told ++ row) ++ fill-rows fill taker (level b s p zs) ys) ds
               ∙ append-assoc (t .told) row (fill-rows fill taker (level b s p behind) ys) ∙ ap (λ (zs : List Row). t .told ++ zs) (sym f) ∙ t .rest;
           more = more-then w₀ w w′ rows₀ rows rows′ (t .told) row (t .more) new;
-          below = subst (λ (zs : List Order). Below-each ys (quantities (level b s p zs))) (sym ds) (h .2);
+          below = subst (λ (zs : List Order). Below ys (quantities (level b s p zs))) (sym ds) (h .2);
           long = length-set os k o′ ∙ t .long;
         }
 

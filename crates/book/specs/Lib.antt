@@ -1,6 +1,5 @@
 pub mod Bounds
 pub mod Best
-pub mod Shares
 pub mod Reports
 pub mod Matched
 pub mod Settling

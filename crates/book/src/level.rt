@@ -17,26 +17,18 @@ use market::order::Order;
 use market::price::Price;
 use market::side::Side;
 
-// What a level holds: all quantities together, and the number of its orders.
-#[derive(Clone, Copy)]
-pub(crate) struct Level {
-    pub total: u32,
-    pub count: usize,
-}
-
-// Reads one level: collects its quantities, in book order, and sums and counts them.
+// Reads one level: collects its quantities, in book order, and gives back their sum.
 pub(crate) fn read_level(
     orders: &[Order],
     book: BookId,
     side: Side,
     price: Price,
     collected: &mut Vec<u32>,
-) -> Level
+) -> u32
     requires small { ⌜ Small (now orders) ⌝ }
     requires few { ⌜ length (now orders) ≤ 256 ⌝ }
     requires room { ⌜ 256 ≤ vec-cap (now collected) ⌝ }
-    ensures total { λ r. ⌜ r .total ≡ total (quantities (level book side price (now (orders .entry)))) ⌝ }
-    ensures count { λ r. ⌜ r .count ≡ length (quantities (level book side price (now (orders .entry)))) ⌝ }
+    ensures total { λ r. ⌜ r ≡ total (quantities (level book side price (now (orders .entry)))) ⌝ }
     ensures collected { λ r. ⌜ vec-items (now (collected .exit)) ≡ quantities (level book side price (now (orders .entry))) ⌝ }
     ensures capacity { λ r. ⌜ vec-cap (now (collected .exit)) ≡ vec-cap (now (collected .entry)) ⌝ }
 {
@@ -50,10 +42,7 @@ pub(crate) fn read_level(
             collected.push_reserved(quantity);
         }
     }
-    Level {
-        total,
-        count: collected.len(),
-    }
+    total
 }
 
 // The better of a price and one that may be there; of two equal ones, the one that was there.

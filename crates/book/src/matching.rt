@@ -1,7 +1,6 @@
 // The match of an arriving order with the opposite side of its book.
 ghost use mathlib.Core.Path.{_≡_};
 ghost use Prim.Native.Nat.{_<_, _≤_};
-ghost use lib.ListN.{length};
 ghost use Rattle.std.specs.Of.Vec.{vec-items, vec-len, vec-cap};
 ghost use Rattle.rules.specs.Domain.{Domain};
 ghost use Rattle.market.specs.Levels.{in-level, after-fill, Best};
@@ -91,14 +90,14 @@ fn fill_at<R: AllocationRule>(
 {
     let book = lot_book(taker.lot);
     let side = opposite(taker.side);
-    let level = read_level(
+    let open = read_level(
         resting.orders.as_slice(),
         book,
         side,
         price,
         &mut scratch.quantities,
     );
-    let traded = left.min(level.total);
+    let traded = left.min(open);
     divide(rule, scratch, traded);
     let fill = Fill {
         number,

@@ -1,6 +1,6 @@
 // The rows that a call writes into its caller's report.
 ghost use mathlib.Core.Path.{_≡_};
-ghost use mathlib.Core.List.{List, [], _∷_, _++_};
+ghost use mathlib.Core.List.{[], _∷_};
 ghost use lib.ListN.{length};
 ghost use Rattle.market.specs.Rows.{blank, some-row, trade-row, cancel-row, buyer-of};
 ghost use Rattle.book.specs.Reports.{Holds, RowsMore};

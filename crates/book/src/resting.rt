@@ -1,6 +1,6 @@
 // The resting orders themselves, in order of arrival.
 ghost use mathlib.Core.Path.{_≡_};
-ghost use Prim.Native.Nat.{ℕ, _<_, _≤_};
+ghost use Prim.Native.Nat.{_<_, _≤_};
 ghost use lib.ListN.{getD, set};
 ghost use ghost.Atoms.{sem};
 ghost use denote.Follow.{follows};
@@ -11,11 +11,11 @@ ghost use Rattle.std.specs.shelf.Lists.{kept-by};
 ghost use Rattle.market.specs.declared.order.Order.{Order as OrderT};
 ghost use Rattle.market.specs.contracts.order.Order.{the-row as order-row};
 ghost use Rattle.market.specs.Levels.{in-level, level, quantities, reduced, still-open, after-fill};
+ghost use Rattle.market.specs.Lists.{Below};
 ghost use Rattle.market.specs.Orders.{quantity-of, less};
 ghost use Rattle.market.specs.Rows.{fill-rows};
 ghost use Rattle.book.specs.contracts.resting.Resting.{the-row};
 ghost use Rattle.book.specs.Reports.{RowsMore};
-ghost use Rattle.book.specs.Shares.{Below-each};
 use crate::compare::in_level;
 use crate::compare::less_lot;
 use crate::compare::lot_size;
@@ -65,7 +65,7 @@ impl Resting {
         report: &mut [Row],
         written: &mut Written,
     )
-        requires { ⌜ Below-each (now shares) (quantities (level book side price (vec-items (now self .orders)))) ⌝ }
+        requires { ⌜ Below (now shares) (quantities (level book side price (vec-items (now self .orders)))) ⌝ }
         ensures orders { λ _. ⌜ vec-items (now (self .exit) .orders) ≡ reduced (in-level book side price) (vec-items (now (self .entry) .orders)) (now (shares .entry)) ⌝ }
         ensures rows { λ _. ⌜ RowsMore (now (written .entry)) (now (report .entry)) (fill-rows (fill .number) (fill .taker) (level book side price (vec-items (now (self .entry) .orders))) (now (shares .entry))) (now (written .exit)) (now (report .exit)) ⌝ }
         ensures capacity { λ _. ⌜ vec-cap (now (self .exit) .orders) ≡ vec-cap (now (self .entry) .orders) ⌝ }
@@ -109,7 +109,7 @@ impl Resting {
         report: &mut [Row],
         written: &mut Written,
     )
-        requires { ⌜ Below-each (now shares) (quantities (level book side price (vec-items (now self .orders)))) ⌝ }
+        requires { ⌜ Below (now shares) (quantities (level book side price (vec-items (now self .orders)))) ⌝ }
         ensures orders { λ _. ⌜ vec-items (now (self .exit) .orders) ≡ after-fill (in-level book side price) (vec-items (now (self .entry) .orders)) (now (shares .entry)) ⌝ }
         ensures rows { λ _. ⌜ RowsMore (now (written .entry)) (now (report .entry)) (fill-rows (fill .number) (fill .taker) (level book side price (vec-items (now (self .entry) .orders))) (now (shares .entry))) (now (written .exit)) (now (report .exit)) ⌝ }
         ensures capacity { λ _. ⌜ vec-cap (now (self .exit) .orders) ≡ vec-cap (now (self .entry) .orders) ⌝ }

@@ -9,6 +9,7 @@ use lib.ListN.{length, getD}
 use Rattle.std.specs.shelf.Lists.{All, kept-by}
 use Rattle.std.proofs.shelf.Ways.{tells}
 use Rattle.std.proofs.shelf.Elements.{all-append, all-kept-by}
+use Rattle.std.proofs.shelf.Sums.{length-kept-by, countBy-le-length}
 use Rattle.rules.specs.Domain.{total}
 use Rattle.market.specs.declared.order.Order.{Order}
 use Rattle.market.specs.declared.row.Row.{Row}
@@ -16,20 +17,13 @@ use Rattle.market.specs.declared.row.RowKind.{RowKind}
 use Rattle.market.specs.declared.side.Side.{Side}
 use Rattle.market.specs.declared.side.Side.the-variants.{Buy, Sell}
 use Rattle.market.specs.Levels.{quantities, reduced, still-open, after-fill}
-use Rattle.market.specs.Lists.{first, rest}
+use Rattle.market.specs.Lists.{first, rest, Below}
 use Rattle.market.specs.Orders.{quantity-of, less}
 use Rattle.market.specs.Prices.{opposite}
 use Rattle.market.specs.Rows.{buyer-of, trade-row, some-row, fill-rows}
 use Rattle.market.specs.Sessions.{is-trade, is-cancellation, names, counted, resting}
 use Rattle.market.proofs.Sizes.{quantity-sized, Lasting}
 use Rattle.market.proofs.Sums.{counted-++, Numbers-below}
-
--- one share for each quantity, none above it
-abbrev pub Below : List ℕ → List ℕ → Type 0
-Below [] [] = Unit {0}
-Below [] (q ∷ qs) = ⊥
-Below (k ∷ ks) [] = ⊥
-Below (k ∷ ks) (q ∷ qs) = (k ≤ q) × Below ks qs
 
 pub below-from : (ks qs : List ℕ) → length ks ≡ length qs → ((i : ℕ) → getD ks i 0 ≤ getD qs i 0) → Below ks qs
 below-from [] [] e h = tt
@@ -125,9 +119,7 @@ pub all-after-fill : (P : Order → Type 0) → Lasting P → (test : Order → 
 all-after-fill P lasts test os ks a = all-kept-by still-open P (reduced test os ks) (all-reduced P lasts test os ks a)
 
 pub length-kept-le : {X : Type 0} (test : X → Bool) (xs : List X) → length (kept-by test xs) ≤ length xs
-length-kept-le test [] = omega arith
-length-kept-le test (x ∷ xs) = let more = length-kept-le test xs in
-    elim (test x) as (λ b. length (cond b (x ∷ kept-by test xs) (kept-by test xs)) ≤ suc (length xs)) [ true ↦ omega arith | false ↦ omega arith ]
+length-kept-le test xs = omega (arith, length-kept-by test xs, countBy-le-length test xs)
 
 length-reduced : (test : Order → Bool) (os : List Order) (ks : List ℕ) → length (reduced test os ks) ≡ length os
 length-reduced test [] ks = refl

@@ -13,7 +13,7 @@ use Rattle.market.specs.declared.phase.Withdrawal.{Withdrawal}
 use Rattle.market.specs.declared.phase.Withdrawal.the-variants.{Nothing, Quotes, Everything}
 use Rattle.market.specs.declared.refusal.Refusal.the-variants.{NumbersSpent, BookFull}
 use Rattle.market.specs.declared.row.Row.{Row}
-use Rattle.market.specs.Endings.{Effect, Ending, refused, done}
+use Rattle.market.specs.Endings.{Ending, refused, done}
 use Rattle.market.specs.Matching.{Match}
 use Rattle.market.specs.Orders.{quantity-of, sized, arriving, own}
 use Rattle.market.specs.Rows.{cancel-row}

@@ -1,6 +1,6 @@
 -- Worked figures, as one statement.
 use mathlib.Core.Path.{_≡_}
-use mathlib.Core.List.{List, [], _∷_}
+use mathlib.Core.List.{[], _∷_}
 use Rattle.rules.specs.PriceTime.{price-time}
 use Rattle.rules.specs.ProRata.{pro-rata}
 

@@ -1,14 +1,12 @@
 -- The match of an arriving order with the opposite side of its book.
 use mathlib.Core.Path.{_≡_}
 use mathlib.Core.Bool.{true}
-use mathlib.Core.List.{List, [], _∷_, _++_}
+use mathlib.Core.List.{List, [], _++_}
 use Prim.Native.Nat.{ℕ, _+_, _-_, _<_, min}
 use Rattle.rules.specs.Domain.{total}
-use Rattle.market.specs.declared.book_id.BookId.{BookId}
 use Rattle.market.specs.declared.order.Order.{Order}
 use Rattle.market.specs.declared.price.Price.{Price}
 use Rattle.market.specs.declared.row.Row.{Row}
-use Rattle.market.specs.declared.side.Side.{Side}
 use Rattle.market.specs.Levels.{in-level, level, quantities, Best, None-within, after-fill}
 use Rattle.market.specs.Orders.{lot-book}
 use Rattle.market.specs.Prices.{opposite, good}

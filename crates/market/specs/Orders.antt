@@ -1,5 +1,5 @@
 -- Orders, and the book that each rests in.
-use mathlib.Core.Bool.{Bool, true, false, not, _&&_}
+use mathlib.Core.Bool.{Bool, false, not, _&&_}
 use Prim.Native.Nat.{ℕ, _-_}
 use lib.Dec.{eqb}
 use Rattle.market.specs.declared.arrival.Arrival.{Arrival}

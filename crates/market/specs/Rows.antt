@@ -1,12 +1,11 @@
 -- The rows of a report.
-use mathlib.Core.Bool.{Bool, true, false, cond}
+use mathlib.Core.Bool.{cond}
 use mathlib.Core.List.{List, [], _∷_, _++_}
 use Prim.Native.Nat.{ℕ}
 use lib.Dec.{eqb}
 use lib.IntN.{pos}
 use lib.ListN.{replicate}
 use Rattle.market.specs.declared.order.Order.{Order}
-use Rattle.market.specs.declared.price.Price.{Price}
 use Rattle.market.specs.declared.row.Row.{Row}
 use Rattle.market.specs.declared.row.RowKind.{RowKind}
 use Rattle.market.specs.declared.row.RowKind.the-variants.{Blank, Trade, Leg, Combination, Cancellation}

@@ -1,6 +1,6 @@
 -- A venue as a member meets it: what it refuses, and what each call does.
 use mathlib.Core.Path.{_≡_}
-use mathlib.Core.Bool.{Bool, true, false, cond, not, _&&_}
+use mathlib.Core.Bool.{Bool, true, false, cond, _&&_}
 use mathlib.Core.List.{List, [], _∷_}
 use Prim.Native.Nat.{ℕ, _-_}
 use lib.Dec.{leb, eqb}
@@ -11,7 +11,6 @@ use Rattle.std.specs.declared.option.Option.{Option}
 use Rattle.std.specs.declared.option.Option.the-variants.{Some, None}
 use Rattle.std.specs.declared.result.Result.{Result}
 use Rattle.std.specs.declared.result.Result.the-variants.{Ok, Err}
-use Rattle.market.specs.declared.arrival.Arrival.{Arrival}
 use Rattle.market.specs.declared.call.Call.{Call}
 use Rattle.market.specs.declared.call.Call.the-variants.{Enter, Amend, Cancel, Quote, Define, Switch}
 use Rattle.market.specs.declared.call.Duration.{Duration}
@@ -29,7 +28,7 @@ use Rattle.market.specs.declared.refusal.Refusal.{Refusal}
 use Rattle.market.specs.declared.refusal.Refusal.the-variants as refusal
 use Rattle.market.specs.declared.side.Side.{Side}
 use Rattle.market.specs.BookCalls.{BookState, Enters, Cancels, withdrawn}
-use Rattle.market.specs.Endings.{Effect, Ending, refused, done}
+use Rattle.market.specs.Endings.{Ending, refused, done}
 use Rattle.market.specs.Orders.{own}
 
 -- what a venue is: its product, its phase, a price band for each instrument, and its book

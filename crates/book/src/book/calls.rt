@@ -1,18 +1,16 @@
 // What may be done with a book.
 ghost use mathlib.Core.Path.{_≡_};
 ghost use mathlib.Core.Bool.{true};
-ghost use mathlib.Core.List.{List, []};
+ghost use mathlib.Core.List.{[]};
 ghost use Prim.Native.Nat.{_+_, _≤_};
 ghost use lib.ListN.{length};
 ghost use Rattle.std.specs.Of.Vec.{vec-items};
 ghost use Rattle.std.specs.Vec.{made};
-ghost use Rattle.market.specs.declared.row.Row.{Row as RowT};
 ghost use Rattle.market.specs.BookCalls.{Enters, Cancels, withdrawn};
 ghost use Rattle.market.specs.Endings.{Follows};
 ghost use Rattle.market.specs.Venues.{owned};
 ghost use Rattle.book.specs.Bounds.{Bounded};
 ghost use Rattle.book.specs.Closing.{book-state, Closes};
-ghost use Rattle.book.specs.Reports.{Holds};
 use super::Book;
 use crate::compare::lot_size;
 use crate::find::find_own;

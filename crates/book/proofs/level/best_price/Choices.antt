@@ -1,6 +1,4 @@
-use mathlib.Core.Path.{_≡_}
 use lib.ListN.{take}
-use Rattle.market.specs.Prices.{opposite}
 use Rattle.book.specs.Best.{Best-found}
 use Rattle.book.proofs.level.best_price.Given as given
 

@@ -1,43 +1,46 @@
-use borrow.Author.Needs.{needs}
 use native.Mathlib.Omega.{arith}
-use mathlib.Core.Path.{_≡_, refl, sym, _∙_, ap, subst}
+use mathlib.Core.Path.{_≡_, sym, _∙_, ap, subst}
 use mathlib.Core.List.{List}
-use Prim.Native.Nat.{ℕ, _≤_}
-use lib.ListN.{length, getD}
+use Prim.Native.Nat.{ℕ, min}
 use Rattle.std.specs.Of.Vec.{vec-items}
-use Rattle.rules.specs.Domain.{Domain, Laws}
+use Rattle.rules.specs.Domain.{total}
 use Rattle.market.specs.declared.order.Order.{Order}
 use Rattle.market.specs.Levels.{level, quantities}
-use Rattle.market.specs.Orders.{lot-book}
-use Rattle.market.specs.Prices.{opposite}
-use Rattle.book.specs.Shares.{Below-each}
-use Rattle.book.proofs.Bounds.{level-domain, shares-below}
+use Rattle.market.specs.Lists.{Below}
+use Rattle.market.specs.Matching.{facing, given, divided}
+use Rattle.market.proofs.Asking.{shares-below}
+use Rattle.book.proofs.Bounds.{read-asked}
 use Rattle.book.proofs.matching.fill_at.Needs as need
 
 pub divide-requires : need.divide-requires
 divide-requires g c κs =
     let o = c .args .taker .now in
+    let p = c .args .price in
     let os = vec-items (c .args .resting .now .orders) in
-    let few = c .args .resting .now .orders .ok .0 in
-    let read : vec-items (c .read-level-level .last .collected) ≡ quantities (level (lot-book (o .lot)) (opposite (o .side)) (c .args .price) os) =
-    c .read-level-level .ensures .collected ∙ (λ j. quantities (level (c .lot-book-book .ensures j) (c .opposite-side .ensures j) (c .args .price) (c .as-slice .ensures .value j))) in
+    let q = c .args .left in
+    let long = c .args .resting .now .orders .ok .0 in
+    let level-read = c .read-level-open .ensures in
+    let faced : level (c .lot-book-book .result) (c .opposite-side .result) p (c .as-slice .result .now) ≡ facing o p os = λ j. level (c .lot-book-book .ensures j) (c .opposite-side .ensures j) p (c .as-slice .ensures .value j) in
     record {
-      domain = subst (λ (qs : List ℕ). Domain qs (c .min-traded .result)) (sym read) (level-domain (lot-book (o .lot)) (opposite (o .side)) (c .args .price) os (c .min-traded .result) (c .pre .small) (omega (arith, c .pre .few)) (omega (arith, c .min-traded .ensures, c .pre .left)) (c .pre .best .there));
-      room = record { quantities = omega (arith, c .read-level-level .ensures .capacity, c .pre .room .quantities); shares = c .pre .room .shares };
+      domain = read-asked o p os q (vec-items (c .read-level-open .last .collected)) (c .min-traded .result) (record { small = c .pre .small; few = omega (arith, c .pre .few) }) (c .pre .best)
+          (level-read .collected ∙ ap quantities faced) (c .min-traded .ensures ∙ ap (min q) (level-read .total ∙ ap (λ (xs : List Order). total (quantities xs)) faced));
+      room = record { quantities = omega (arith, level-read .capacity, c .pre .room .quantities); shares = c .pre .room .shares };
     }
 
 pub fill-level-requires : need.fill-level-requires
 fill-level-requires g c κs =
     let o = c .args .taker .now in
+    let p = c .args .price in
     let os = vec-items (c .args .resting .now .orders) in
-    let few = c .args .resting .now .orders .ok .0 in
-    let give = c .min-traded .result in
+    let q = c .args .left in
+    let long = c .args .resting .now .orders .ok .0 in
     let shares = g .R·AllocationRule .shares (c .args .rule .now) in
-    let qs = vec-items (c .read-level-level .last .collected) in
-    let at : qs ≡ quantities (level (c .lot-book-book .result) (c .opposite-side .result) (c .args .price) os) =
-    c .read-level-level .ensures .collected ∙ ap (λ (z : List Order). quantities (level (c .lot-book-book .result) (c .opposite-side .result) (c .args .price) z)) (c .as-slice .ensures .value) in
-    let read : qs ≡ quantities (level (lot-book (o .lot)) (opposite (o .side)) (c .args .price) os) =
-    at ∙ (λ j. quantities (level (c .lot-book-book .ensures j) (c .opposite-side .ensures j) (c .args .price) os)) in
-    let domain : Domain qs give = subst (λ (xs : List ℕ). Domain xs give) (sym read) (level-domain (lot-book (o .lot)) (opposite (o .side)) (c .args .price) os give (c .pre .small) (omega (arith, c .pre .few)) (omega (arith, c .min-traded .ensures, c .pre .left)) (c .pre .best .there)) in
-    subst (λ (ks : List ℕ). Below-each ks (quantities (level (c .lot-book-book .result) (c .opposite-side .result) (c .args .price) os))) (sym (c .as-slice-2 .ensures .value ∙ c .divide .ensures .shares))
-    (subst (λ (xs : List ℕ). Below-each (shares qs give) xs) at (shares-below shares (g .R·AllocationRule·met .lawful (c .args .rule .now)) qs give domain))
+    let level-read = c .read-level-open .ensures in
+    let faced : level (c .lot-book-book .result) (c .opposite-side .result) p os ≡ facing o p os = λ j. level (c .lot-book-book .ensures j) (c .opposite-side .ensures j) p os in
+    let read : level (c .lot-book-book .result) (c .opposite-side .result) p (c .as-slice .result .now) ≡ facing o p os = λ j. level (c .lot-book-book .ensures j) (c .opposite-side .ensures j) p (c .as-slice .ensures .value j) in
+    let qs : vec-items (c .read-level-open .last .collected) ≡ quantities (facing o p os) = level-read .collected ∙ ap quantities read in
+    let give : c .min-traded .result ≡ given o p os q = c .min-traded .ensures ∙ ap (min q) (level-read .total ∙ ap (λ (xs : List Order). total (quantities xs)) read) in
+    let ks : c .as-slice-2 .result .now ≡ divided shares o p os q = c .as-slice-2 .ensures .value ∙ c .divide .ensures .shares ∙ (λ j. shares (qs j) (give j)) in
+    subst (λ (xs : List ℕ). Below xs (quantities (level (c .lot-book-book .result) (c .opposite-side .result) p os))) (sym ks)
+    (subst (λ (xs : List Order). Below (divided shares o p os q) (quantities xs)) (sym faced)
+    (shares-below shares (g .R·AllocationRule·met .lawful (c .args .rule .now)) o p os q (record { small = c .pre .small; few = omega (arith, c .pre .few) }) (c .pre .best)))

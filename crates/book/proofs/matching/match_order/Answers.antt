@@ -1,10 +1,8 @@
-use borrow.Author.Needs.{needs}
 use native.Mathlib.Omega.{arith}
 use mathlib.Core.Path.{_≡_, refl, sym, _∙_, ap, subst}
 use mathlib.Core.List.{List, []}
-use Prim.Native.Nat.{ℕ, _<_, _≤_, _+_, _-_}
 use lib.ListN.{length}
-use Rattle.std.specs.Of.Vec.{vec-items, vec-len, vec-cap}
+use Rattle.std.specs.Of.Vec.{vec-items}
 use Rattle.std.specs.declared.option.Option.the-variants.{Some}
 use Rattle.market.specs.declared.order.Order.{Order}
 use Rattle.market.specs.Levels.{in-level, after-fill, None-within}
@@ -13,7 +11,8 @@ use Rattle.market.specs.Orders.{lot-book}
 use Rattle.market.specs.Prices.{opposite}
 use Rattle.book.specs.Bounds.{Small, Positive}
 use Rattle.book.specs.Matched.{Best-within}
-use Rattle.book.proofs.Bounds.{level-open, small-after, positive-after, long-after}
+use Rattle.market.proofs.Asking.{bounded-after-fill}
+use Rattle.book.proofs.Bounds.{level-open, positive-after}
 use Rattle.book.proofs.Going.{going-start, going-fill, going-end}
 use Rattle.book.proofs.matching.match_order.Needs as need
 
@@ -63,14 +62,13 @@ loop-left-again g c =
     let eo : vec-items (c .fill-at-left .last .resting .orders) ≡ after-fill test os ks = c .fill-at-left .ensures .orders in
     let eg : c .fill-at-left .result ≡ given o p os q = c .fill-at-left .ensures .given in
     let some = level-open (lot-book (o .lot)) (opposite (o .side)) p os (c .loop-left .inv .2) (found .0 .there) in
-    let long : length (vec-items (c .fill-at-left .last .resting .orders)) ≤ length os = omega (arith, ap length eo, long-after test os ks) in
     let k₀ = c .loop-left .resting .orders .ok .0 in
     let k₁ = c .fill-at-left .last .resting .orders .ok .0 in
-    let few = c .loop-left .inv .3 in (
+    let kept = bounded-after-fill test os ks (record { small = c .loop-left .inv .1; few = omega (arith, c .loop-left .inv .3) }) in (
       rw (eo, eg) (going-fill shares o _ _ _ (c .loop-left .number) q os (c .loop-left .written) (c .loop-left .report) p (c .fill-at-left .last .written) (c .fill-at-left .last .report) (c .loop-left .inv .0) (c .loop-left-test .taken) (found .0) (found .1) (c .fill-at-left .ensures .rows)),
-      subst Small (sym eo) (small-after test os ks (c .loop-left .inv .1)),
+      subst Small (sym eo) (kept .small),
       subst Positive (sym eo) (positive-after test os ks),
-      omega arith,
+      omega (arith, ap length eo, kept .few),
       c .fill-at-left .ensures .room,
       omega (arith, c .loop-left .inv .5),
       omega (arith, c .loop-left .inv .6, c .loop-left-test .taken),

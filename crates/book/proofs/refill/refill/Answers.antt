@@ -1,10 +1,8 @@
-use borrow.Author.Needs.{needs}
-use mathlib.Core.Path.{_≡_, sym, _∙_, ap}
+use mathlib.Core.Path.{sym, _∙_, ap}
 use mathlib.Core.List.{_∷_, [], _++_}
 use native.Mathlib.Omega.{arith}
 use Prim.Native.Nat.{_<_}
-use lib.ListN.{length, getD, take}
-use Rattle.std.specs.Of.Vec.{vec-items, vec-cap}
+use lib.ListN.{length, take}
 use Rattle.std.proofs.shelf.Lists.{take-more, take-all}
 use Rattle.book.proofs.refill.refill.Needs as need
 

@@ -1,20 +1,19 @@
-use borrow.Author.Needs.{needs}
-use mathlib.Core.Path.{_≡_, refl, sym, _∙_, ap, subst}
+use mathlib.Core.Path.{_≡_, sym, _∙_, ap, subst}
 use mathlib.Core.Bool.{Bool, true, false, not}
 use mathlib.Core.List.{List, [], _∷_, _++_}
 use native.Mathlib.Omega.{arith}
-use Prim.Native.Nat.{_+_, _<_, _≤_}
+use Prim.Native.Nat.{_+_, _<_}
 use lib.ListN.{length, getD, take}
 use Rattle.std.specs.Of.Vec.{vec-items, vec-len, vec-cap}
 use Rattle.std.specs.shelf.Lists.{kept-by, map}
-use Rattle.std.proofs.shelf.Lists.{take-all}
+use Rattle.std.proofs.shelf.Lists.{length-push, take-all}
 use Rattle.market.specs.declared.order.Order.{Order}
 use Rattle.market.specs.declared.row.Row.{Row}
 use Rattle.market.specs.BookCalls.{leaves}
 use Rattle.market.specs.Rows.{cancel-row}
 use Rattle.book.specs.declared.resting.Resting.{Resting}
 use Rattle.book.specs.Reports.{RowsMore}
-use Rattle.book.proofs.Leaving.{kept-yes, kept-no, rows-yes, count-more}
+use Rattle.book.proofs.Leaving.{kept-yes, kept-no, rows-yes}
 use Rattle.book.proofs.Levels.{no-order}
 use Rattle.book.proofs.Reports.{more-then}
 use Rattle.book.proofs.withdrawal.take_out.Needs as need
@@ -35,7 +34,7 @@ loop-i-again c =
           let more = more-then (c .args .written .now) (c .loop-i .written) (w .push .last .self) (c .args .report .now) (c .loop-i .report) (w .push .last .report) (map cancel-row (kept-by out (take i os))) (w .cancel-row .result ∷ []) (c .loop-i .inv .2) (w .push .ensures) in
           let rows : map cancel-row (kept-by out (take i os)) ++ w .cancel-row .result ∷ [] ≡ map cancel-row (kept-by out (take (i + 1) os)) =
           ap (λ (r : Row). map cancel-row (kept-by out (take i os)) ++ r ∷ []) (w .cancel-row .ensures) ∙ sym (rows-yes out os i no-order lt yes) in (
-            w .count-is ∙ omega (arith, c .loop-i .inv .0, ap length (kept-yes out os i no-order lt yes), count-more (kept-by out (take i os)) o),
+            w .count-is ∙ omega (arith, c .loop-i .inv .0, ap length (kept-yes out os i no-order lt yes), length-push (kept-by out (take i os)) o),
             ap (λ (r : Resting). vec-items (r .orders)) (w .draft-is) ∙ c .loop-i .inv .1 ∙ sym (kept-no stay os i no-order lt stays-not),
             rw (w .written-is, w .report-is) (subst (λ (rs : List Row). RowsMore (c .args .written .now) (c .args .report .now) rs (w .push .last .self) (w .push .last .report)) rows more),
             omega (arith, ap (λ (r : Resting). vec-len (r .orders)) (w .draft-is), c .loop-i .inv .3),

@@ -1,24 +1,22 @@
-use borrow.Author.Needs.{needs}
-use mathlib.Core.Path.{_≡_, refl, sym, _∙_, ap, subst}
-use mathlib.Core.List.{List, _∷_, [], _++_}
+use mathlib.Core.Path.{_≡_, sym, _∙_, ap, subst}
+use mathlib.Core.List.{List}
 use native.Mathlib.Omega.{arith}
 use Prim.Native.Nat.{_≤_, _<_}
 use lib.ListN.{length, getD}
-use Rattle.std.specs.Of.Vec.{vec-items, vec-len, vec-cap}
+use Rattle.std.specs.Of.Vec.{vec-items}
 use Rattle.std.specs.Holes.{removed}
 use Rattle.std.specs.declared.option.Option.the-variants.{Some}
 use Rattle.std.proofs.shelf.Elements.{all-from-every}
-use Rattle.std.proofs.shelf.Lists.{length-replicate}
 use Rattle.market.specs.declared.acceptance.Acceptance.the-variants.{Cancelled}
 use Rattle.market.specs.declared.order.Order.{Order}
 use Rattle.market.specs.BookCalls.{Cancels}
 use Rattle.market.specs.Orders.{quantity-of}
-use Rattle.market.specs.Rows.{blank-row}
 use Rattle.book.specs.Bounds.{Small, Positive}
 use Rattle.book.specs.Closing.{book-state}
 use Rattle.book.specs.Finding.{Own-found}
 use Rattle.book.proofs.Closing.{follows-closed, cancel-ready}
 use Rattle.book.proofs.Finding.{all-removed}
+use Rattle.book.proofs.Reports.{blank-long}
 use Rattle.book.proofs.book.Book.cancel.Needs as need
 
 pub close-requires : need.close-requires
@@ -49,7 +47,7 @@ returns c =
     let value = c .as-slice-resting .ensures .value in
     let copied = c .refill .ensures .items ∙ value in
     let found : Own-found (c .args .participant) (c .args .number) (m .orders) (Some i) = subst (λ (xs : List Order). Own-found (c .args .participant) (c .args .number) xs (Some i)) value (c .in-Some .ensures tt) in
-    let long : length (p .last .report) ≡ length (c .args .report .now) = p .kept .report ∙ ap length (s .ensures .blank) ∙ length-replicate (length (c .args .report .now)) blank-row in
+    let long : length (p .last .report) ≡ length (c .args .report .now) = p .kept .report ∙ blank-long (s .last .report) (length (c .args .report .now)) (s .ensures .blank) in
     follows-closed (Cancels m (c .args .participant) (c .args .number)) m (length (c .args .report .now)) (Cancelled (c .args .number) (c .lot-size-quantity .result)) (vec-items (r .last .self)) (m .next) (p .last .self) (p .last .report) (c .close .result) (c .close .last .report) (book-state (c .close .last .self)) long
     (cancel-ready m (c .args .participant) (c .args .number) i (r .result) (r .result) (c .cancel-row .result) (c .lot-size-quantity .result) (vec-items (r .last .self)) (s .result) (p .last .self) (s .last .report) (p .last .report)
     found (r .ensures .value ∙ ap (λ (xs : List Order). getD xs i (r .result)) copied) (c .cancel-row .ensures) (c .lot-size-quantity .ensures) (r .ensures .items ∙ ap (λ (xs : List Order). removed xs i) copied) (s .ensures .holds) (p .ensures))

@@ -1,23 +1,22 @@
-use borrow.Author.Needs.{needs}
 use mathlib.Core.Path.{_≡_, refl, sym, _∙_, ap, subst}
 use mathlib.Core.List.{List}
 use native.Mathlib.Omega.{arith}
 use Prim.Native.Nat.{_+_, _≤_, _<_}
 use lib.ListN.{length}
-use Rattle.std.specs.Of.Vec.{vec-items, vec-len, vec-cap}
+use Rattle.std.specs.Of.Vec.{vec-items}
 use Rattle.std.specs.declared.result.Result.the-variants.{Ok, Err}
 use Rattle.std.proofs.shelf.Elements.{all-from-every}
-use Rattle.std.proofs.shelf.Lists.{length-replicate}
 use Rattle.std.proofs.shelf.Results.{err-from-errBy}
 use Rattle.market.specs.declared.acceptance.Acceptance.the-variants.{Entered}
 use Rattle.market.specs.declared.order.Order.{Order}
-use Rattle.market.specs.BookCalls.{BookState, Enters, no-number}
-use Rattle.market.specs.Orders.{quantity-of, arriving}
-use Rattle.market.specs.Rows.{blank, blank-row}
+use Rattle.market.specs.BookCalls.{Enters, no-number}
+use Rattle.market.specs.Orders.{quantity-of}
+use Rattle.market.specs.Rows.{blank}
 use Rattle.book.specs.Bounds.{Small, Positive}
 use Rattle.book.specs.Closing.{book-state}
 use Rattle.book.specs.Settling.{Settles, Settled}
 use Rattle.book.proofs.Closing.{follows-refused, follows-closed, settled-by}
+use Rattle.book.proofs.Reports.{blank-long}
 use Rattle.book.proofs.book.Book.enter.Needs as need
 
 pub returns-then-number-gt-LAST-NUMBER : need.returns-then-number-gt-LAST-NUMBER
@@ -71,7 +70,7 @@ returns-in-Break-traded g c =
     settled-by shares (c .args .arrival) (m .next) (c .arriving-order .result) (vec-items (c .refill .last .to)) (m .orders) (s .result) (s .last .report) (o .result) (vec-items (o .last .resting .orders)) (o .last .written) (o .last .report) (Err e) (vec-items (t .last .draft .orders)) (t .last .written) (t .last .report)
     (c .arriving-order .ensures) (c .refill .ensures .items ∙ value) few (o .ensures .run) (s .ensures .holds)
     (subst (λ (xs : List Order). Settles xs (m .next) (c .args .arrival) (o .result) (vec-items (o .last .resting .orders)) (o .last .written) (o .last .report) (Err e) (vec-items (t .last .draft .orders)) (t .last .written) (t .last .report)) value (c .in-Break-traded .ensures tt .settles)) in
-    let long : length (t .last .report) ≡ length (c .args .report .now) = t .kept .report ∙ o .kept .report ∙ ap length (s .ensures .blank) ∙ length-replicate (length (c .args .report .now)) blank-row in
+    let long : length (t .last .report) ≡ length (c .args .report .now) = t .kept .report ∙ o .kept .report ∙ blank-long (s .last .report) (length (c .args .report .now)) (s .ensures .blank) in
     follows-refused (Enters shares m (c .args .arrival)) m (length (c .args .report .now)) e (c .from-residual .result) (t .last .report) (p .1 ∙ ap Err (p .2)) (done .0) (done .1 ∙ ap blank long)
 
 pub returns : need.returns
@@ -88,5 +87,5 @@ returns g c =
     settled-by shares (c .args .arrival) (m .next) (c .arriving-order .result) (vec-items (c .refill .last .to)) (m .orders) (s .result) (s .last .report) (o .result) (vec-items (o .last .resting .orders)) (o .last .written) (o .last .report) (Ok traded) (vec-items (t .last .draft .orders)) (t .last .written) (t .last .report)
     (c .arriving-order .ensures) (c .refill .ensures .items ∙ value) few (o .ensures .run) (s .ensures .holds)
     (subst (λ (xs : List Order). Settles xs (m .next) (c .args .arrival) (o .result) (vec-items (o .last .resting .orders)) (o .last .written) (o .last .report) (Ok traded) (vec-items (t .last .draft .orders)) (t .last .written) (t .last .report)) value (c .in-Continue-traded .ensures tt .settles)) in
-    let long : length (t .last .report) ≡ length (c .args .report .now) = t .kept .report ∙ o .kept .report ∙ ap length (s .ensures .blank) ∙ length-replicate (length (c .args .report .now)) blank-row in
+    let long : length (t .last .report) ≡ length (c .args .report .now) = t .kept .report ∙ o .kept .report ∙ blank-long (s .last .report) (length (c .args .report .now)) (s .ensures .blank) in
     follows-closed (Enters shares m (c .args .arrival)) m (length (c .args .report .now)) (Entered (m .next) traded) (vec-items (t .last .draft .orders)) (m .next + 1) (t .last .written) (t .last .report) (c .close .result) (c .close .last .report) (book-state (c .close .last .self)) long ready (c .close .ensures)

@@ -1,24 +1,23 @@
-use borrow.Author.Needs.{needs}
-use mathlib.Core.Path.{_≡_, refl, sym, _∙_, ap, subst}
+use mathlib.Core.Path.{_≡_, sym, _∙_, ap, subst}
 use mathlib.Core.Bool.{Bool, not}
 use mathlib.Core.List.{List}
 use native.Mathlib.Omega.{arith}
 use Prim.Native.Nat.{_≤_, _<_}
 use lib.ListN.{length}
-use Rattle.std.specs.Of.Vec.{vec-items, vec-len, vec-cap}
+use Rattle.std.specs.Of.Vec.{vec-items}
 use Rattle.std.specs.shelf.Lists.{kept-by, map}
 use Rattle.std.proofs.shelf.Elements.{all-from-every, all-kept-by}
-use Rattle.std.proofs.shelf.Lists.{length-replicate}
-use Rattle.std.proofs.shelf.Sums.{length-kept-by, countBy-le-length}
 use Rattle.market.specs.declared.acceptance.Acceptance.the-variants.{Switched}
 use Rattle.market.specs.declared.order.Order.{Order}
 use Rattle.market.specs.BookCalls.{leaves, withdrawn}
 use Rattle.market.specs.Orders.{quantity-of}
-use Rattle.market.specs.Rows.{cancel-row, blank-row}
+use Rattle.market.specs.Rows.{cancel-row}
+use Rattle.market.proofs.Fills.{length-kept-le}
 use Rattle.book.specs.Bounds.{Small, Positive}
 use Rattle.book.specs.Closing.{book-state}
 use Rattle.book.specs.Reports.{RowsMore}
 use Rattle.book.proofs.Closing.{follows-closed, withdraw-ready}
+use Rattle.book.proofs.Reports.{blank-long}
 use Rattle.book.proofs.book.Book.withdraw.Needs as need
 
 pub close-requires : need.close-requires
@@ -34,7 +33,7 @@ close-requires c κs =
       bounded = record {
         small = subst Small (sym same) (all-kept-by stay (λ o. quantity-of o ≤ 10000) os (all-from-every (λ (o : Order). quantity-of o ≤ 10000) os (b .small)));
         positive = subst Positive (sym same) (all-kept-by stay (λ o. 0 < quantity-of o) os (all-from-every (λ (o : Order). 0 < quantity-of o) os (b .positive)));
-        few = omega (arith, ap length same, length-kept-by stay os, countBy-le-length stay os, b .few);
+        few = omega (arith, ap length same, length-kept-le stay os, b .few);
         room = omega (arith, t .ensures .capacity, b .room .1);
       };
       numbers = b .numbers;
@@ -47,7 +46,7 @@ returns c =
     let s = c .start-written in
     let value = c .as-slice-resting .ensures .value in
     let out = leaves (c .args .which) in
-    let long : length (t .last .report) ≡ length (c .args .report .now) = t .kept .report ∙ ap length (s .ensures .blank) ∙ length-replicate (length (c .args .report .now)) blank-row in
+    let long : length (t .last .report) ≡ length (c .args .report .now) = t .kept .report ∙ blank-long (s .last .report) (length (c .args .report .now)) (s .ensures .blank) in
     follows-closed (λ e. e ≡ withdrawn (c .args .which) m) m (length (c .args .report .now)) (Switched (t .result)) (vec-items (t .last .draft .orders)) (m .next) (t .last .written) (t .last .report) (c .close .result) (c .close .last .report) (book-state (c .close .last .self)) long
     (withdraw-ready m (c .args .which) (t .result) (vec-items (t .last .draft .orders)) (s .result) (t .last .written) (s .last .report) (t .last .report)
     (t .ensures .count ∙ ap (λ (xs : List Order). length (kept-by out xs)) value)

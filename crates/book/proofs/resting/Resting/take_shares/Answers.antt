@@ -1,21 +1,18 @@
 use borrow.Author.Needs.{needs}
 use native.Mathlib.Omega.{arith}
-use mathlib.Core.Path.{_≡_, refl, sym, _∙_, ap, subst}
-use mathlib.Core.List.{List, [], _∷_, _++_}
-use mathlib.Core.Bool.{true, false}
-use Prim.Native.Nat.{ℕ, _+_, _<_, _≤_}
+use mathlib.Core.Path.{_≡_, sym, _∙_, ap, subst}
+use Prim.Native.Nat.{_<_, _≤_}
 use lib.ListN.{getD, length, set}
 use Rattle.std.proofs.shelf.Lists.{getD-default}
-use Rattle.std.specs.Of.Vec.{vec-items, vec-len, vec-cap}
+use Rattle.std.specs.Of.Vec.{vec-items, vec-cap}
 use Rattle.market.specs.declared.order.Order.{Order}
 use Rattle.market.specs.declared.row.Row.{Row}
-use Rattle.market.specs.Levels.{in-level, quantities, level}
+use Rattle.market.specs.Levels.{in-level}
 use Rattle.market.specs.Orders.{less, quantity-of}
 use Rattle.market.specs.Rows.{some-row, trade-row}
 use Rattle.book.specs.declared.resting.Resting.{Resting}
 use Rattle.book.specs.Reports.{RowsMore}
-use Rattle.book.specs.Shares.{Below-each}
-use Rattle.book.proofs.Taking.{Taking, taking-start, taking-here, taking-no, taking-yes, taking-end}
+use Rattle.book.proofs.Taking.{taking-here, taking-no, taking-yes, taking-end}
 use Rattle.book.proofs.resting.Resting.take_shares.Needs as need
 use Rattle.book.proofs.resting.Resting.take_shares.Needs.{then-in-level, else-in-level}
 
