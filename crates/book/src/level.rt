@@ -17,18 +17,26 @@ use market::order::Order;
 use market::price::Price;
 use market::side::Side;
 
-// Reads one level: collects its quantities, in book order, and gives back their sum.
+// What a level holds: all its quantities together, and how many orders have them.
+#[derive(Clone, Copy)]
+pub(crate) struct Level {
+    pub total: u32,
+    pub count: usize,
+}
+
+// Reads one level: collects its quantities, in book order, sums them and counts them.
 pub(crate) fn read_level(
     orders: &[Order],
     book: BookId,
     side: Side,
     price: Price,
     collected: &mut Vec<u32>,
-) -> u32
+) -> Level
     requires small { ⌜ Small (now orders) ⌝ }
     requires few { ⌜ length (now orders) ≤ 256 ⌝ }
     requires room { ⌜ 256 ≤ vec-cap (now collected) ⌝ }
-    ensures total { λ r. ⌜ r ≡ total (quantities (level book side price (now (orders .entry)))) ⌝ }
+    ensures total { λ r. ⌜ r .total ≡ total (quantities (level book side price (now (orders .entry)))) ⌝ }
+    ensures count { λ r. ⌜ r .count ≡ length (quantities (level book side price (now (orders .entry)))) ⌝ }
     ensures collected { λ r. ⌜ vec-items (now (collected .exit)) ≡ quantities (level book side price (now (orders .entry))) ⌝ }
     ensures capacity { λ r. ⌜ vec-cap (now (collected .exit)) ≡ vec-cap (now (collected .entry)) ⌝ }
 {
@@ -42,7 +50,10 @@ pub(crate) fn read_level(
             collected.push_reserved(quantity);
         }
     }
-    total
+    Level {
+        total,
+        count: collected.len(),
+    }
 }
 
 // The better of a price and one that may be there; of two equal ones, the one that was there.

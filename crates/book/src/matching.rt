@@ -3,7 +3,8 @@ ghost use mathlib.Core.Path.{_≡_};
 ghost use Prim.Native.Nat.{_<_, _≤_};
 ghost use Rattle.std.specs.Of.Vec.{vec-items, vec-len, vec-cap};
 ghost use Rattle.rules.specs.Domain.{Domain};
-ghost use Rattle.market.specs.Levels.{in-level, after-fill, Best};
+ghost use Rattle.market.specs.Levels.{in-level, level, quantities, after-fill, Best};
+ghost use Rattle.market.specs.Lists.{Below};
 ghost use Rattle.market.specs.Matching.{facing, given, divided};
 ghost use Rattle.market.specs.Orders.{quantity-of, lot-book};
 ghost use Rattle.market.specs.Prices.{opposite};
@@ -21,9 +22,11 @@ use crate::refill::refill;
 use crate::report::Fill;
 use crate::report::Written;
 use crate::resting::Resting;
+use market::book_id::BookId;
 use market::order::Order;
 use market::price::Price;
 use market::row::Row;
+use market::side::Side;
 use rules::rule::AllocationRule;
 
 // The best opposite price, where it is within the order's limit.
@@ -65,6 +68,26 @@ fn divide<R: AllocationRule>(rule: &R, scratch: &mut Scratch, give: u32)
     );
 }
 
+// Takes from a level's orders the shares that stand in the list.
+fn trade_shares(
+    resting: &mut Resting,
+    scratch: &Scratch,
+    book: BookId,
+    side: Side,
+    price: Price,
+    fill: Fill,
+    report: &mut [Row],
+    written: &mut Written,
+)
+    requires { ⌜ Below (vec-items (now scratch .shares)) (quantities (level book side price (vec-items (now resting .orders)))) ⌝ }
+    ensures orders { λ _. ⌜ vec-items (now (resting .exit) .orders) ≡ after-fill (in-level book side price) (vec-items (now (resting .entry) .orders)) (vec-items (now (scratch .entry) .shares)) ⌝ }
+    ensures rows { λ _. ⌜ RowsMore (now (written .entry)) (now (report .entry)) (fill-rows (fill .number) (fill .taker) (level book side price (vec-items (now (resting .entry) .orders))) (vec-items (now (scratch .entry) .shares))) (now (written .exit)) (now (report .exit)) ⌝ }
+    ensures capacity { λ _. ⌜ vec-cap (now (resting .exit) .orders) ≡ vec-cap (now (resting .entry) .orders) ⌝ }
+{
+    let shares = scratch.shares.as_slice();
+    resting.fill_level(book, side, price, shares, fill, report, written);
+}
+
 // One fill at the level of that price, divided once by the rule; gives back what traded.
 fn fill_at<R: AllocationRule>(
     rule: &R,
@@ -90,28 +113,20 @@ fn fill_at<R: AllocationRule>(
 {
     let book = lot_book(taker.lot);
     let side = opposite(taker.side);
-    let open = read_level(
+    let level = read_level(
         resting.orders.as_slice(),
         book,
         side,
         price,
         &mut scratch.quantities,
     );
-    let traded = left.min(open);
+    let traded = left.min(level.total);
     divide(rule, scratch, traded);
     let fill = Fill {
         number,
         taker: taker.number,
     };
-    resting.fill_level(
-        book,
-        side,
-        price,
-        scratch.shares.as_slice(),
-        fill,
-        report,
-        written,
-    );
+    trade_shares(resting, scratch, book, side, price, fill, report, written);
     traded
 }
 

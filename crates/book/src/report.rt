@@ -70,14 +70,14 @@ pub(crate) struct Fill {
 }
 
 // So many contracts of a resting order trade.
-pub(crate) fn trade_row(fill: Fill, order: &Order, quantity: u32) -> Row
-    ensures { λ r. ⌜ r ≡ trade-row (fill .number) (fill .taker) (now (order .entry)) quantity ⌝ }
+pub(crate) fn trade_row(fill: Fill, order: &Order, traded: u32) -> Row
+    ensures { λ r. ⌜ r ≡ trade-row (fill .number) (fill .taker) (now (order .entry)) traded ⌝ }
 {
     Row {
         kind: RowKind::Trade,
         fill: fill.number,
         book: book_number(lot_book(order.lot)),
-        quantity,
+        quantity: traded,
         price: Amount(i64::from(order.price.0)),
         buyer: buyer_of(order.side, order.number, fill.taker),
         seller: buyer_of(opposite(order.side), order.number, fill.taker),

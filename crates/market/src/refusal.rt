@@ -1,6 +1,10 @@
 // Why a call is refused.
 ghost use mathlib.Core.Path.{_≡_};
+ghost use lib.ListN.{length};
+ghost use Rattle.std.specs.declared.result.Result.the-variants.{Err};
 ghost use Rattle.market.specs.Refusals.{refusal-code};
+ghost use Rattle.market.specs.Rows.{blank};
+use crate::row::Row;
 
 // The layer of the venue that refuses.
 #[derive(Clone, Copy)]
@@ -61,4 +65,13 @@ impl Refusal {
             place,
         }
     }
+}
+
+// A refusal reports nothing.
+pub fn refuse(report: &mut [Row], why: Refusal) -> Result<(u32, u32), Refusal>
+    ensures answer { λ r. ⌜ r ≡ Err why ⌝ }
+    ensures blank { λ r. ⌜ now (report .exit) ≡ blank (length (now (report .entry))) ⌝ }
+{
+    report.fill(Row::blank());
+    Err(why)
 }

@@ -3,10 +3,8 @@ ghost use mathlib.Core.Path.{_≡_};
 ghost use Prim.Native.Nat.{_≤_};
 ghost use lib.ListN.{length};
 ghost use Rattle.std.specs.Vec.{made};
-ghost use Rattle.std.specs.declared.result.Result.the-variants.{Err};
 ghost use Rattle.market.specs.declared.call.Call.the-variants.{Enter, Cancel, Switch};
 ghost use Rattle.market.specs.Endings.{Follows};
-ghost use Rattle.market.specs.Rows.{blank};
 ghost use Rattle.market.specs.Venues.{Does, fault};
 ghost use Rattle.gate.specs.Views.{view, Built-with};
 use super::Venue;
@@ -26,19 +24,11 @@ use market::phase::Phase;
 use market::product::Band;
 use market::product::Product;
 use market::refusal::Refusal;
+use market::refusal::refuse;
 use market::row::Row;
 use rules::rule::AllocationRule;
 use std::alloc::AllocError;
 use std::alloc::Global;
-
-// A refusal reports nothing.
-fn refuse(report: &mut [Row], refusal: Refusal) -> Result<(u32, u32), Refusal>
-    ensures answer { λ r. ⌜ r ≡ Err refusal ⌝ }
-    ensures blank { λ r. ⌜ now (report .exit) ≡ blank (length (now (report .entry))) ⌝ }
-{
-    report.fill(Row::blank());
-    Err(refusal)
-}
 
 impl<R: AllocationRule> Venue<R> {
     // A venue in Pre Open with no order, or a refusal where a band is broken; only then is memory taken.

@@ -3,9 +3,7 @@ ghost use mathlib.Core.Path.{_≡_};
 ghost use Prim.Native.Nat.{_≤_};
 ghost use lib.ListN.{length};
 ghost use Rattle.std.specs.Vec.{made};
-ghost use Rattle.std.specs.declared.result.Result.the-variants.{Err};
 ghost use Rattle.market.specs.Endings.{Follows};
-ghost use Rattle.market.specs.Rows.{blank};
 ghost use Rattle.market.specs.Venues.{Takes};
 ghost use Rattle.gate.specs.Views.{view};
 ghost use Rattle.line.specs.Gateways.{Opens-as, Opens, Goes-on, turn-of};
@@ -18,6 +16,7 @@ use crate::reader::read_call;
 use gate::venue::Venue;
 use market::acceptance::Acceptance;
 use market::refusal::Refusal;
+use market::refusal::refuse;
 use market::row::Row;
 use rules::rule::AllocationRule;
 use std::alloc::AllocError;
@@ -48,15 +47,6 @@ where
         }
         Err(refusal) => Ok(Err(refusal)),
     }
-}
-
-// A refusal reports nothing.
-fn refuse(report: &mut [Row], refusal: Refusal) -> Result<(u32, u32), Refusal>
-    ensures answer { λ r. ⌜ r ≡ Err refusal ⌝ }
-    ensures blank { λ r. ⌜ now (report .exit) ≡ blank (length (now (report .entry))) ⌝ }
-{
-    report.fill(Row::blank());
-    Err(refusal)
 }
 
 impl<R: AllocationRule> Gateway<R> {

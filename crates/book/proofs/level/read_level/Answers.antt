@@ -51,4 +51,4 @@ returns c =
     let e : take (c .loop-i .i) (c .args .orders .now) ≡ c .args .orders .now = take-all (c .loop-i .i) (c .args .orders .now) (omega arith) in
     let t : vec-items (c .loop-i .collected) ≡ quantities (level (c .args .book) (c .args .side) (c .args .price) (c .args .orders .now)) =
     c .loop-i .inv .1 ∙ ap (λ (z : List Order). quantities (level (c .args .book) (c .args .side) (c .args .price) z)) e in
-    record { total = c .loop-i .inv .0 ∙ ap total t; collected = t; capacity = c .loop-i .inv .4 ∙ c .clear .ensures .capacity }
+    record { total = c .loop-i .inv .0 ∙ ap total t; count = c .len .ensures ∙ c .loop-i .collected .ok .0 ∙ ap length t; collected = t; capacity = c .loop-i .inv .4 ∙ c .clear .ensures .capacity }

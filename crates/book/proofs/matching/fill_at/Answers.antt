@@ -19,28 +19,28 @@ divide-requires g c κs =
     let os = vec-items (c .args .resting .now .orders) in
     let q = c .args .left in
     let long = c .args .resting .now .orders .ok .0 in
-    let level-read = c .read-level-open .ensures in
+    let level-read = c .read-level-level .ensures in
     let faced : level (c .lot-book-book .result) (c .opposite-side .result) p (c .as-slice .result .now) ≡ facing o p os = λ j. level (c .lot-book-book .ensures j) (c .opposite-side .ensures j) p (c .as-slice .ensures .value j) in
     record {
-      domain = read-asked o p os q (vec-items (c .read-level-open .last .collected)) (c .min-traded .result) (record { small = c .pre .small; few = omega (arith, c .pre .few) }) (c .pre .best)
+      domain = read-asked o p os q (vec-items (c .read-level-level .last .collected)) (c .min-traded .result) (record { small = c .pre .small; few = omega (arith, c .pre .few) }) (c .pre .best)
           (level-read .collected ∙ ap quantities faced) (c .min-traded .ensures ∙ ap (min q) (level-read .total ∙ ap (λ (xs : List Order). total (quantities xs)) faced));
       room = record { quantities = omega (arith, level-read .capacity, c .pre .room .quantities); shares = c .pre .room .shares };
     }
 
-pub fill-level-requires : need.fill-level-requires
-fill-level-requires g c κs =
+pub trade-shares-requires : need.trade-shares-requires
+trade-shares-requires g c κs =
     let o = c .args .taker .now in
     let p = c .args .price in
     let os = vec-items (c .args .resting .now .orders) in
     let q = c .args .left in
     let long = c .args .resting .now .orders .ok .0 in
     let shares = g .R·AllocationRule .shares (c .args .rule .now) in
-    let level-read = c .read-level-open .ensures in
+    let level-read = c .read-level-level .ensures in
     let faced : level (c .lot-book-book .result) (c .opposite-side .result) p os ≡ facing o p os = λ j. level (c .lot-book-book .ensures j) (c .opposite-side .ensures j) p os in
     let read : level (c .lot-book-book .result) (c .opposite-side .result) p (c .as-slice .result .now) ≡ facing o p os = λ j. level (c .lot-book-book .ensures j) (c .opposite-side .ensures j) p (c .as-slice .ensures .value j) in
-    let qs : vec-items (c .read-level-open .last .collected) ≡ quantities (facing o p os) = level-read .collected ∙ ap quantities read in
+    let qs : vec-items (c .read-level-level .last .collected) ≡ quantities (facing o p os) = level-read .collected ∙ ap quantities read in
     let give : c .min-traded .result ≡ given o p os q = c .min-traded .ensures ∙ ap (min q) (level-read .total ∙ ap (λ (xs : List Order). total (quantities xs)) read) in
-    let ks : c .as-slice-2 .result .now ≡ divided shares o p os q = c .as-slice-2 .ensures .value ∙ c .divide .ensures .shares ∙ (λ j. shares (qs j) (give j)) in
+    let ks : vec-items (c .divide .last .scratch .shares) ≡ divided shares o p os q = c .divide .ensures .shares ∙ (λ j. shares (qs j) (give j)) in
     subst (λ (xs : List ℕ). Below xs (quantities (level (c .lot-book-book .result) (c .opposite-side .result) p os))) (sym ks)
     (subst (λ (xs : List Order). Below (divided shares o p os q) (quantities xs)) (sym faced)
     (shares-below shares (g .R·AllocationRule·met .lawful (c .args .rule .now)) o p os q (record { small = c .pre .small; few = omega (arith, c .pre .few) }) (c .pre .best)))
