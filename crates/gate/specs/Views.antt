@@ -13,6 +13,7 @@ use Rattle.market.specs.Venues.{View, fresh}
 use Rattle.book.specs.Closing.{book-state}
 use Rattle.gate.specs.declared.venue.Venue.{Venue}
 
+-- a venue by its product, phase, bands and book
 abbrev pub view : {R : Type 0} → Venue R → View
 view v = record { product = v .product; phase = v .trading .phase; bands = vec-items (v .trading .bands); book = book-state (v .book) }
 

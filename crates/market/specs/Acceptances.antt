@@ -3,6 +3,7 @@ use Prim.Native.Nat.{ℕ}
 use Rattle.market.specs.declared.acceptance.Acceptance.{Acceptance}
 use Rattle.market.specs.declared.acceptance.Acceptance.the-variants.{Built, Entered, Cancelled, Switched}
 
+-- the two numbers of each acceptance
 abbrev pub acceptance-numbers : Acceptance → ℕ × ℕ
 -- build: how many instruments there are
 acceptance-numbers (Built n) = (n, 0)

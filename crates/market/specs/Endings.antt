@@ -41,6 +41,7 @@ report before room e =
     cond (ltb room (length (e .rows))) (refuse before room ReportFull)
     (record { answer = Ok (acceptance-numbers (e .accepted)); rows = e .rows ++ blank (room - length (e .rows)); after = e .after })
 
+-- what the caller sees of each ending
 abbrev pub close : {S : Type 0} → S → ℕ → Ending S → Outcome S
 close before room (refused e) = refuse before room e
 close before room (done e) = report before room e

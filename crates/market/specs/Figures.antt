@@ -4,6 +4,7 @@ use mathlib.Core.List.{[], _∷_}
 use Rattle.rules.specs.PriceTime.{price-time}
 use Rattle.rules.specs.ProRata.{pro-rata}
 
+-- what the two rules give in these cases
 abbrev pub Figures-stand : Type 0
 Figures-stand =
     -- give 7 of 5, 3, 2

@@ -13,12 +13,15 @@ use Rattle.market.specs.Lists.{Any, first, rest}
 use Rattle.market.specs.Orders.{stands, quantity-of, less}
 use Rattle.market.specs.Prices.{opposite, good, same-price}
 
+-- the order rests in this book, on this side, at this price
 abbrev pub in-level : BookId → Side → Price → Order → Bool
 in-level b s p o = stands b s o && same-price (o .price) p
 
+-- the level: all such orders, in book order
 abbrev pub level : BookId → Side → Price → List Order → List Order
 level b s p os = kept-by (in-level b s p) os
 
+-- what each order has open
 abbrev pub quantities : List Order → List ℕ
 quantities os = map quantity-of os
 

@@ -38,6 +38,7 @@ sized o k = record { number = o .number; participant = o .participant; side = o 
 abbrev pub less : Order → ℕ → Order
 less o k = sized o (quantity-of o - k)
 
+-- one and the same instrument or combination
 abbrev pub same-book : BookId → BookId → Bool
 same-book (Instrument i) (Instrument j) = eqb i j
 same-book (Instrument i) (Combination j) = false

@@ -10,6 +10,7 @@ abbrev pub opposite : Side → Side
 opposite Buy = Sell
 opposite Sell = Buy
 
+-- one and the same side
 abbrev pub same-side : Side → Side → Bool
 same-side Buy Buy = true
 same-side Buy Sell = false
@@ -21,5 +22,6 @@ abbrev pub good : Side → Price → Price → Bool
 good Buy p q = leZ (p .0) (q .0)
 good Sell p q = leZ (q .0) (p .0)
 
+-- one and the same price: each is at most the other
 abbrev pub same-price : Price → Price → Bool
 same-price p q = leZ (p .0) (q .0) && leZ (q .0) (p .0)

@@ -6,9 +6,11 @@ use Rattle.market.specs.declared.refusal.Refusal.{Refusal}
 use Rattle.market.specs.declared.refusal.Refusal.the-variants.{NotOffered, Byte, Field, Band, Phase, Participant, Book, Order, Quantity, Price, NumbersSpent, BookFull, ReportFull}
 use Rattle.market.specs.declared.refusal.RefusalCode.{RefusalCode}
 
+-- a number, a layer and a place
 abbrev pub told : ℕ → Layer → ℕ → RefusalCode
 told n l p = record { number = n; layer = l; place = p }
 
+-- the number, the layer and the place of each refusal
 abbrev pub refusal-code : Refusal → RefusalCode
 -- a call that is not offered yet
 refusal-code NotOffered = told 0 layer.Gate 0

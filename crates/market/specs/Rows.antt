@@ -15,26 +15,32 @@ use Rattle.market.specs.Lists.{first, rest}
 use Rattle.market.specs.Orders.{quantity-of, lot-book, book-number}
 use Rattle.market.specs.Prices.{opposite}
 
--- the number of each kind of row
-abbrev pub kind-number : RowKind → ℕ
-kind-number Blank = 0
-kind-number Trade = 1
-kind-number Leg = 2
-kind-number Combination = 3
-kind-number Cancellation = 4
+-- the number and the letter of each kind of row
+abbrev pub kind-code : RowKind → ℕ × ℕ
+-- a row of zeros, '-'
+kind-code Blank = (0, 45)
+-- a contract trade, T
+kind-code Trade = (1, 84)
+-- a leg of a trade between combinations, U
+kind-code Leg = (2, 85)
+-- a combination trade, N
+kind-code Combination = (3, 78)
+-- a cancellation, X
+kind-code Cancellation = (4, 88)
 
--- the letter of each kind of row: '-', T, U, N, X
+-- the number of a kind
+abbrev pub kind-number : RowKind → ℕ
+kind-number k = kind-code k .0
+
+-- the letter of a kind
 abbrev pub kind-letter : RowKind → ℕ
-kind-letter Blank = 45
-kind-letter Trade = 84
-kind-letter Leg = 85
-kind-letter Combination = 78
-kind-letter Cancellation = 88
+kind-letter k = kind-code k .1
 
 -- seven zeros
 abbrev pub blank-row : Row
 blank-row = record { kind = Blank; fill = 0; book = 0; quantity = 0; price = record { 0 = pos 0 }; buyer = 0; seller = 0 }
 
+-- so many rows of zeros
 abbrev pub blank : ℕ → List Row
 blank n = replicate n blank-row
 

@@ -31,6 +31,7 @@ pub record Turn (Message : Type 0) : Type 0 where
 
 -- ---- what is read off the reports
 
+-- rows that trade contracts
 abbrev pub is-trade : RowKind → Bool
 is-trade kind.Blank = false
 is-trade kind.Trade = true
@@ -38,6 +39,7 @@ is-trade kind.Leg = false
 is-trade kind.Combination = false
 is-trade kind.Cancellation = false
 
+-- rows that cancel
 abbrev pub is-cancellation : RowKind → Bool
 is-cancellation kind.Blank = false
 is-cancellation kind.Trade = false
@@ -81,6 +83,7 @@ entry-of (Quote p i q r k t) m = []
 entry-of (Define p k legs) m = []
 entry-of (Switch w) m = []
 
+-- the numbers that an answer gives: none where the line could not be read or was refused
 abbrev pub entries-of : Result Call Refusal → Result (ℕ × ℕ) Refusal → List Entry
 entries-of (Ok c) (Ok a) = entry-of c (a .0)
 entries-of (Ok c) (Err e) = []
@@ -89,6 +92,7 @@ entries-of (Err u) (Err e) = []
 
 -- messages of any kind, by how they are read
 module _ {Message : Type 0} (reading : Message → Result Call Refusal) where
+  -- the numbers that a turn gives
   abbrev pub entries : Turn Message → List Entry
   entries t = entries-of (reading (t .message)) (t .answer)
 

@@ -76,10 +76,12 @@ serving Closed = false
 abbrev pub band-of : List Band → ℕ → Option Band
 band-of bands i = cond (eqb i 0) None (nth bands (i - 1))
 
+-- there is such an instrument
 abbrev pub known : Option Band → Bool
 known None = false
 known (Some b) = true
 
+-- the price is neither below the band nor above it
 abbrev pub within-band : Option Band → Price → Bool
 within-band None p = false
 within-band (Some b) p = leZ (pos (b .low)) (p .0) && leZ (p .0) (pos (b .high))
@@ -108,6 +110,7 @@ next-phase Closed Halt = None
 next-phase Closed Resume = None
 next-phase Closed Close = None
 
+-- an event that turns nothing is refused for the phase
 abbrev pub switch-fault : Option Phase → Option Refusal
 switch-fault None = Some refusal.Phase
 switch-fault (Some phase) = None
