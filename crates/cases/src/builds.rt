@@ -1,6 +1,5 @@
 // Build lines, each with the answer that it gets.
 use line::gateway::Gateway;
-use market::refusal::Layer;
 use market::refusal::Refusal;
 use rules::pro_rata::ProRata;
 use rules::pro_rata::ProRataRule;
@@ -14,17 +13,9 @@ enum Answer {
     Refused(u32, u32, u32),
 }
 
-fn layer_number(layer: Layer) -> u32 {
-    match layer {
-        Layer::Line => 1,
-        Layer::Gate => 2,
-        Layer::Book => 3,
-    }
-}
-
 fn refused(refusal: Refusal) -> Answer {
     let code = refusal.code();
-    Answer::Refused(code.number, layer_number(code.layer), code.place)
+    Answer::Refused(code.number, code.layer.number(), code.place)
 }
 
 fn built(rt: &LibcRuntime, line: &[u8]) -> Result<Answer, AllocError> {

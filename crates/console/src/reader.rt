@@ -1,6 +1,9 @@
 // Standard input, read in blocks and cut into lines.
+ghost use mathlib.Core.Path.{_≡_};
+ghost use mathlib.Core.List.{[]};
 ghost use Prim.Native.Nat.{_≤_};
-ghost use Rattle.std.specs.Of.Vec.{vec-len};
+ghost use Rattle.std.specs.Of.Vec.{vec-items, vec-len};
+ghost use Rattle.std.specs.Vec.{made};
 use crate::cutter::LineCutter;
 use std::alloc::AllocError;
 use std::alloc::Global;
@@ -75,7 +78,9 @@ impl LineReader {
 }
 
 // Writes out what stands in the buffer, and empties it.
-pub(crate) fn flush(rt: &LibcRuntime, out: &mut Vec<u8>) -> Result<(), AnyError> {
+pub(crate) fn flush(rt: &LibcRuntime, out: &mut Vec<u8>) -> Result<(), AnyError>
+    ensures { λ r. ⌜ made r (λ _. vec-items (now (out .exit)) ≡ []) ⌝ }
+{
     rt.stdout().write_all(out.as_slice())?;
     out.clear();
     Ok(())

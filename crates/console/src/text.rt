@@ -4,10 +4,8 @@ ghost use mathlib.Core.List.{_++_};
 ghost use Rattle.std.specs.Of.Vec.{vec-items};
 ghost use Rattle.std.specs.Vec.{made};
 ghost use Rattle.std.specs.Written.{decimal};
-ghost use Rattle.market.specs.Refusals.{layer-number};
 ghost use Rattle.console.specs.Text.{field, price-field, accepted-text, refused-text, answer-text, row-text, report-text};
 use market::price::Amount;
-use market::refusal::Layer;
 use market::refusal::Refusal;
 use market::refusal::RefusalCode;
 use market::row::Row;
@@ -46,17 +44,6 @@ fn write_price(out: &mut Vec<u8>, price: Amount) -> Result<(), AllocError>
     Ok(())
 }
 
-// The number that an answer tells a layer by.
-fn layer_number(layer: Layer) -> u32
-    ensures { λ r. ⌜ r ≡ layer-number layer ⌝ }
-{
-    match layer {
-        Layer::Line => 1,
-        Layer::Gate => 2,
-        Layer::Book => 3,
-    }
-}
-
 // Appends the line of an answer.
 pub fn write_answer(
     out: &mut Vec<u8>,
@@ -85,7 +72,7 @@ fn write_refused(out: &mut Vec<u8>, code: RefusalCode) -> Result<(), AllocError>
 {
     out.extend_from_slice(b"no")?;
     write_field(out, code.number)?;
-    write_field(out, layer_number(code.layer))?;
+    write_field(out, code.layer.number())?;
     write_field(out, code.place)?;
     out.push(b'\n')?;
     Ok(())

@@ -2,6 +2,7 @@
 use mathlib.Core.Path.{_≡_, refl, sym, _∙_, ap, subst}
 use mathlib.Core.List.{List}
 use Prim.Native.Nat.{ℕ}
+use Rattle.std.specs.Vec.{refused as refused-by}
 use Rattle.std.specs.declared.result.Result.{Result}
 use Rattle.std.specs.declared.result.Result.the-variants.{Ok, Err}
 use Rattle.rules.specs.Domain.{Laws}
@@ -28,6 +29,11 @@ module _ (shares : List ℕ → ℕ → List ℕ) (v : View) (room : ℕ) (asked
   -- a line that makes a call
   pub follows-read : (c : Call) (answer : Result (ℕ × ℕ) Refusal) (rows : List Row) (w : View) → asked ≡ Ok c → Follows (Does shares v c) v room answer rows w → Follows (Takes shares v asked) v room answer rows w
   follows-read c answer rows w is f = record { ending = f .ending; allowed = subst (λ (r : Result Call Refusal). Takes shares v r (f .ending)) (sym is) (read c (f .ending) (f .allowed)); answered = f .answered; reported = f .reported; left = f .left }
+
+-- an error outside the table, after something was judged
+pub refused-weaker : {X Y : Type 0} (r : Result X Y) (P Q : Type 0) → (P → Q) → refused-by r (λ _. P) → refused-by r (λ _. Q)
+refused-weaker (Ok x) P Q f h = tt
+refused-weaker (Err y) P Q f h = f h
 
 -- a venue is open, and its session begins
 pub opened : (shares : List ℕ → ℕ → List ℕ) → Laws shares → (line : List ℕ) (b : BuildLine) (answer : ℕ × ℕ) (v : View) → build-line line ≡ Ok b → v ≡ fresh (b .product) (bands-given b) → answer ≡ acceptance-numbers (Built (b .count)) → Opened shares line answer v

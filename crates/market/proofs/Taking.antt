@@ -39,7 +39,7 @@ pub entered-small : (v : View) (p i : ℕ) (s : Side) (q : ℕ) (r : Price) (d :
 entered-small v p i s q r d h =
     let h₁ = topmost-none (trading (v .phase)) refusal.Phase _ h .1 in
     let h₂ = topmost-none (between 1 999 p) refusal.Participant _ h₁ .1 in
-    let h₃ = topmost-none (known (band-of (v .bands) i)) (refusal.Book 2) _ h₂ .1 in
+    let h₃ = topmost-none (known (band-of (v .bands) i)) (refusal.Unknown 2) _ h₂ .1 in
     let sized = topmost-none (between 1 10000 q) (refusal.Quantity 4) _ h₃ .0 in
     leb-true q 10000 (and-parts (leb 1 q) (leb q 10000) sized .1)
 

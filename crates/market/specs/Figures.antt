@@ -12,6 +12,7 @@ Figures-stand =
     × (price-time (5 ∷ 3 ∷ 2 ∷ []) 7 ≡ 5 ∷ 2 ∷ 0 ∷ [])
     -- give 2 of 1, 1, 1
     × (pro-rata (1 ∷ 1 ∷ 1 ∷ []) 2 ≡ 1 ∷ 1 ∷ 0 ∷ [])
+    × (price-time (1 ∷ 1 ∷ 1 ∷ []) 2 ≡ 1 ∷ 1 ∷ 0 ∷ [])
     -- give 12 of 5, 3, 2: more than there is
     × (pro-rata (5 ∷ 3 ∷ 2 ∷ []) 12 ≡ 5 ∷ 3 ∷ 2 ∷ [])
     × (price-time (5 ∷ 3 ∷ 2 ∷ []) 12 ≡ 5 ∷ 3 ∷ 2 ∷ [])

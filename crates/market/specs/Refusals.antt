@@ -3,7 +3,7 @@ use Prim.Native.Nat.{ℕ}
 use Rattle.market.specs.declared.refusal.Layer.{Layer}
 use Rattle.market.specs.declared.refusal.Layer.the-variants as layer
 use Rattle.market.specs.declared.refusal.Refusal.{Refusal}
-use Rattle.market.specs.declared.refusal.Refusal.the-variants.{NotOffered, Byte, Field, Band, Phase, Participant, Book, Order, Quantity, Price, NumbersSpent, BookFull, ReportFull}
+use Rattle.market.specs.declared.refusal.Refusal.the-variants.{NotOffered, Byte, Field, Band, Phase, Participant, Unknown, Order, Quantity, Price, NumbersSpent, BookFull, ReportFull}
 use Rattle.market.specs.declared.refusal.RefusalCode.{RefusalCode}
 
 -- a number, a layer and a place
@@ -25,7 +25,7 @@ refusal-code Phase = told 4 layer.Gate 0
 -- no such participant
 refusal-code Participant = told 5 layer.Gate 1
 -- no such instrument
-refusal-code (Book p) = told 6 layer.Gate p
+refusal-code (Unknown p) = told 6 layer.Gate p
 -- no such order of this participant
 refusal-code Order = told 7 layer.Gate 2
 -- a quantity out of range

@@ -124,7 +124,7 @@ abbrev pub fault : View → Call → Option Refusal
 fault v (Enter p i s q r d) = topmost (
     unless (trading (v .phase)) refusal.Phase
     ∷ unless (between 1 999 p) refusal.Participant
-    ∷ unless (known (band-of (v .bands) i)) (refusal.Book 2)
+    ∷ unless (known (band-of (v .bands) i)) (refusal.Unknown 2)
     ∷ unless (between 1 10000 q) (refusal.Quantity 4)
     ∷ unless (within-band (band-of (v .bands) i) r) (refusal.Price 5)
     ∷ [])

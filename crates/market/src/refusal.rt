@@ -2,7 +2,7 @@
 ghost use mathlib.Core.Path.{_≡_};
 ghost use lib.ListN.{length};
 ghost use Rattle.std.specs.declared.result.Result.the-variants.{Err};
-ghost use Rattle.market.specs.Refusals.{refusal-code};
+ghost use Rattle.market.specs.Refusals.{refusal-code, layer-number};
 ghost use Rattle.market.specs.Rows.{blank};
 use crate::row::Row;
 
@@ -14,6 +14,18 @@ pub enum Layer {
     Book,
 }
 
+impl Layer {
+    pub fn number(self) -> u32
+        ensures { λ r. ⌜ r ≡ layer-number self ⌝ }
+    {
+        match self {
+            Layer::Line => 1,
+            Layer::Gate => 2,
+            Layer::Book => 3,
+        }
+    }
+}
+
 // A number with a case is the place of the byte or field at fault.
 #[derive(Clone, Copy)]
 pub enum Refusal {
@@ -23,7 +35,7 @@ pub enum Refusal {
     Band(u32),
     Phase,
     Participant,
-    Book(u32),
+    Unknown(u32),
     Order,
     Quantity(u32),
     Price(u32),
@@ -51,7 +63,7 @@ impl Refusal {
             Refusal::Band(place) => (3, Layer::Gate, place),
             Refusal::Phase => (4, Layer::Gate, 0),
             Refusal::Participant => (5, Layer::Gate, 1),
-            Refusal::Book(place) => (6, Layer::Gate, place),
+            Refusal::Unknown(place) => (6, Layer::Gate, place),
             Refusal::Order => (7, Layer::Gate, 2),
             Refusal::Quantity(place) => (8, Layer::Gate, place),
             Refusal::Price(place) => (9, Layer::Gate, place),

@@ -1,3 +1,4 @@
 pub mod Domain
 pub mod PriceTime
 pub mod ProRata
+pub mod AnyLength

@@ -2,8 +2,10 @@
 ghost use mathlib.Core.Path.{_≡_};
 ghost use Prim.Native.Nat.{_≤_};
 ghost use lib.ListN.{length};
-ghost use Rattle.std.specs.Vec.{made};
+ghost use Rattle.std.specs.Vec.{made, refused};
+ghost use Rattle.std.specs.declared.option.Option.the-variants.{None};
 ghost use Rattle.market.specs.declared.call.Call.the-variants.{Enter, Cancel, Switch};
+ghost use Rattle.market.specs.Bands.{build-fault};
 ghost use Rattle.market.specs.Endings.{Follows};
 ghost use Rattle.market.specs.Venues.{Does, fault};
 ghost use Rattle.gate.specs.Views.{view, Built-with};
@@ -31,7 +33,7 @@ use std::alloc::AllocError;
 use std::alloc::Global;
 
 impl<R: AllocationRule> Venue<R> {
-    // A venue in Pre Open with no order, or a refusal where a band is broken; only then is memory taken.
+    // A venue in Pre Open with no order, or a refusal where a band is broken; memory is taken only once the bands are judged sound.
     pub fn build(
         heap: Global,
         rule: R,
@@ -41,7 +43,8 @@ impl<R: AllocationRule> Venue<R> {
     where
         R: Drop,
         requires { ⌜ length (now bands) ≤ 64 ⌝ }
-        ensures { λ r. ⌜ made r (λ b. Built-with product (now (bands .entry)) rule b) ⌝ }
+        ensures built { λ r. ⌜ made r (λ b. Built-with product (now (bands .entry)) rule b) ⌝ }
+        ensures judged { λ r. ⌜ refused r (λ _. build-fault (now (bands .entry)) ≡ None) ⌝ }
     {
         if let Some(refusal) = build_fault(bands) {
             return Ok(Err(refusal));
@@ -68,7 +71,7 @@ impl<R: AllocationRule> Venue<R> {
             &[
                 unless(self.trading.open(), Refusal::Phase),
                 unless(between(1, 999, arrival.participant), Refusal::Participant),
-                unless(known(band), Refusal::Book(2)),
+                unless(known(band), Refusal::Unknown(2)),
                 unless(between(1, 10_000, arrival.quantity.0), Refusal::Quantity(4)),
                 unless(within_band(band, arrival.price), Refusal::Price(5)),
             ],

@@ -2,12 +2,14 @@
 ghost use mathlib.Core.Path.{_≡_};
 ghost use Prim.Native.Nat.{_≤_};
 ghost use lib.ListN.{length};
-ghost use Rattle.std.specs.Vec.{made};
+ghost use Rattle.std.specs.Vec.{made, refused};
+ghost use Rattle.std.specs.declared.option.Option.the-variants.{None};
+ghost use Rattle.market.specs.Bands.{build-fault};
 ghost use Rattle.market.specs.Endings.{Follows};
 ghost use Rattle.market.specs.Venues.{Takes};
 ghost use Rattle.gate.specs.Views.{view};
-ghost use Rattle.line.specs.Gateways.{Opens-as, Opens, Goes-on, turn-of};
-ghost use Rattle.line.specs.Verdicts.{line-call};
+ghost use Rattle.line.specs.Gateways.{bands-given, build-refusal, Opens-as, Opens, Goes-on, turn-of};
+ghost use Rattle.line.specs.Verdicts.{line-call, build-line};
 use super::Gateway;
 use super::Opening;
 use crate::bands::BuildLine;
@@ -31,7 +33,8 @@ fn open<R: AllocationRule>(
 where
     R: Drop,
     requires { ⌜ now request .count ≤ 64 ⌝ }
-    ensures { λ r. ⌜ made r (λ b. Opens-as rule (now (request .entry)) b) ⌝ }
+    ensures opens { λ r. ⌜ made r (λ b. Opens-as rule (now (request .entry)) b) ⌝ }
+    ensures judged { λ r. ⌜ refused r (λ _. build-fault (bands-given (now (request .entry))) ≡ None) ⌝ }
 {
     let count = request.count as usize;
     let bands = &request.bands[0..count];
@@ -50,7 +53,7 @@ where
 }
 
 impl<R: AllocationRule> Gateway<R> {
-    // Builds a venue as the line says, under the rule; want of memory is an error outside the table of refusals.
+    // Builds a venue as the line says, under the rule; want of memory is an error outside the table of refusals, and comes only after the line is judged.
     pub fn build(
         heap: Global,
         rule: R,
@@ -58,7 +61,8 @@ impl<R: AllocationRule> Gateway<R> {
     ) -> Result<Result<Opening<R>, Refusal>, AllocError>
     where
         R: Drop,
-        ensures { λ r. ⌜ made r (λ b. Opens (R·AllocationRule .shares) rule (now (line .entry)) b) ⌝ }
+        ensures opens { λ r. ⌜ made r (λ b. Opens (R·AllocationRule .shares) rule (now (line .entry)) b) ⌝ }
+        ensures judged { λ r. ⌜ refused r (λ _. build-refusal (build-line (now (line .entry))) ≡ None) ⌝ }
     {
         match read_build(line) {
             Ok(request) => open(heap, rule, &request),

@@ -9,6 +9,6 @@ pub returns : need.returns
 returns c = let v = vec-items (c .args .out .now) in
     then v _ _ (then v _ _ (then v _ _ (then v _ _ (c .in-Continue-extend-from-slice .ensures tt .items)
     (c .in-Continue-write-field .ensures tt))
-    (c .in-Continue-write-field-2 .ensures tt ∙ ap (λ n. vec-items (c .write-field .last .out) ++ field n) (c .layer-number .ensures)))
+    (c .in-Continue-write-field-2 .ensures tt ∙ ap (λ n. vec-items (c .write-field .last .out) ++ field n) (c .number .ensures)))
     (c .in-Continue-write-field-3 .ensures tt))
     (c .in-Continue-push .ensures tt .items)
