@@ -8,3 +8,4 @@ pub mod Places
 pub mod Clips
 pub mod Counts
 pub mod Sessions
+pub mod Checks

@@ -54,7 +54,7 @@ module _ {X : Type 0} (form : List (List ℕ) → Form X) (line : List ℕ) wher
   from-place None x u = tt
   from-place (Some p) x u = (omega arith, omega arith, u)
 
-  line-refusal : Line-refusal (read-line form line)
+  pub line-refusal : Line-refusal (read-line form line)
   line-refusal =
       let fs = fields-of line in
       let most = leading-le-length allowed (take 1200 line) in

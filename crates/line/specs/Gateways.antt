@@ -1,7 +1,9 @@
 -- What a gateway promises of the line that builds a venue, and of every line after it.
 use mathlib.Core.Path.{_≡_}
+use mathlib.Core.Bool.{Bool, false, _&&_}
 use mathlib.Core.List.{List, [], _∷_}
 use Prim.Native.Nat.{ℕ}
+use lib.Dec.{leb}
 use lib.ListN.{take}
 use Rattle.std.specs.declared.option.Option.{Option}
 use Rattle.std.specs.declared.option.Option.the-variants.{Some, None}
@@ -13,6 +15,7 @@ use Rattle.market.specs.declared.refusal.Refusal.{Refusal}
 use Rattle.market.specs.declared.row.Row.{Row}
 use Rattle.market.specs.Acceptances.{acceptance-numbers}
 use Rattle.market.specs.Bands.{build-fault}
+use Rattle.market.specs.Refusals.{refusal-code}
 use Rattle.market.specs.Sessions.{Turn, Reached, Sound}
 use Rattle.market.specs.Venues.{View, fresh}
 use Rattle.gate.specs.Views.{view}
@@ -49,6 +52,13 @@ pub record Opened (shares : List ℕ → ℕ → List ℕ) (line : List ℕ) (an
 abbrev pub Opens : {R : Type 0} → (R → List ℕ → ℕ → List ℕ) → R → List ℕ → Result (Opening R) Refusal → Type 0
 Opens shares rule line (Ok o) = (build-refusal (build-line line) ≡ None) × Opened (shares rule) line (o .answer) (view (o .gateway .venue)) × (o .gateway .venue .rule ≡ rule)
 Opens shares rule line (Err e) = build-refusal (build-line line) ≡ Some e
+
+-- ---- answers
+
+-- the answer is a refusal by the line layer: number 1 or 2
+abbrev pub by-line : Result (ℕ × ℕ) Refusal → Bool
+by-line (Ok numbers) = false
+by-line (Err e) = leb 1 (refusal-code e .number) && leb (refusal-code e .number) 2
 
 -- ---- sessions
 
