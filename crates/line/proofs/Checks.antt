@@ -39,7 +39,7 @@ Ends-elsewhere (done e) = Unit {0}
 
 -- ---- what the gate refuses
 
-enter-elsewhere : (a b c d e : Bool) → Elsewhere (topmost (unless a refusal.Phase ∷ unless b refusal.Participant ∷ unless c (refusal.Book 2) ∷ unless d (refusal.Quantity 4) ∷ unless e (refusal.Price 5) ∷ []))
+enter-elsewhere : (a b c d e : Bool) → Elsewhere (topmost (unless a refusal.Phase ∷ unless b refusal.Participant ∷ unless c (refusal.Unknown 2) ∷ unless d (refusal.Quantity 4) ∷ unless e (refusal.Price 5) ∷ []))
 enter-elsewhere false b c d e = refl
 enter-elsewhere true false c d e = refl
 enter-elsewhere true true false d e = refl
