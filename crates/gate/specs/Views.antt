@@ -2,6 +2,7 @@
 use mathlib.Core.Path.{_≡_}
 use mathlib.Core.List.{List}
 use Rattle.std.specs.Of.Vec.{vec-items}
+use Rattle.std.specs.declared.option.Option.{Option}
 use Rattle.std.specs.declared.option.Option.the-variants.{Some, None}
 use Rattle.std.specs.declared.result.Result.{Result}
 use Rattle.std.specs.declared.result.Result.the-variants.{Ok, Err}
@@ -21,3 +22,8 @@ view v = record { product = v .product; phase = v .trading .phase; bands = vec-i
 abbrev pub Built-with : {R : Type 0} → Product → List Band → R → Result (Venue R) Refusal → Type 0
 Built-with product bands rule (Ok v) = (build-fault bands ≡ None) × (view v ≡ fresh product bands) × (v .rule ≡ rule)
 Built-with product bands rule (Err e) = build-fault bands ≡ Some e
+
+-- why no venue was built
+abbrev pub refusal-of : {R : Type 0} → Result (Venue R) Refusal → Option Refusal
+refusal-of (Ok v) = None
+refusal-of (Err e) = Some e

@@ -2,7 +2,7 @@
 ghost use mathlib.Core.Path.{_≡_};
 ghost use Prim.Native.Nat.{_+_, _≤_, _<_};
 ghost use lib.ListN.{length};
-ghost use Rattle.market.specs.Bands.{first-broken, build-fault};
+ghost use Rattle.market.specs.Bands.{first-broken, build-fault, Bands-judged};
 ghost use Rattle.market.specs.Venues.{between, unless, topmost, known, within-band};
 ghost use Rattle.gate.specs.Conditions.{passes};
 use market::price::Price;
@@ -89,7 +89,8 @@ fn first_broken(bands: &[Band], test: BandTest, place: u32) -> Option<Refusal>
 // What is refused of a build line's bands.
 pub(crate) fn build_fault(bands: &[Band]) -> Option<Refusal>
     requires { ⌜ length (now bands) ≤ 64 ⌝ }
-    ensures { λ r. ⌜ r ≡ build-fault (now (bands .entry)) ⌝ }
+    ensures value { λ r. ⌜ r ≡ build-fault (now (bands .entry)) ⌝ }
+    ensures judged { λ r. ⌜ Bands-judged (now (bands .entry)) r ⌝ }
 {
     let highs = 2 + bands.len() as u32;
     topmost(

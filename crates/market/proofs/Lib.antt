@@ -11,3 +11,4 @@ pub mod Taking
 pub mod Sessions
 pub mod Unique
 pub mod Endings
+pub mod BandFaults

@@ -5,10 +5,10 @@ ghost use lib.ListN.{length};
 ghost use Rattle.std.specs.Vec.{made, refused};
 ghost use Rattle.std.specs.declared.option.Option.the-variants.{None};
 ghost use Rattle.market.specs.declared.call.Call.the-variants.{Enter, Cancel, Switch};
-ghost use Rattle.market.specs.Bands.{build-fault};
+ghost use Rattle.market.specs.Bands.{build-fault, Bands-judged};
 ghost use Rattle.market.specs.Endings.{Follows};
 ghost use Rattle.market.specs.Venues.{Does, fault};
-ghost use Rattle.gate.specs.Views.{view, Built-with};
+ghost use Rattle.gate.specs.Views.{view, Built-with, refusal-of};
 use super::Venue;
 use crate::fault::between;
 use crate::fault::build_fault;
@@ -45,6 +45,7 @@ impl<R: AllocationRule> Venue<R> {
         requires { ⌜ length (now bands) ≤ 64 ⌝ }
         ensures built { λ r. ⌜ made r (λ b. Built-with product (now (bands .entry)) rule b) ⌝ }
         ensures judged { λ r. ⌜ refused r (λ _. build-fault (now (bands .entry)) ≡ None) ⌝ }
+        ensures bands { λ r. ⌜ made r (λ b. Bands-judged (now (bands .entry)) (refusal-of b)) ⌝ }
     {
         if let Some(refusal) = build_fault(bands) {
             return Ok(Err(refusal));
