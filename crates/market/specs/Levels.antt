@@ -34,7 +34,7 @@ pub record Best (b : BookId) (s : Side) (os : List Order) (p : Price) : Type 0 w
 abbrev pub None-within : BookId → Side → Price → List Order → Type 0
 None-within b s limit os = All (λ o. stands b (opposite s) o ≡ true → good s (o .price) limit ≡ false) os
 
--- each order that passes the test less its share, in book order; all others as found
+-- each order that passes the test less its share, one for each in book order; all others as found
 abbrev pub reduced : (Order → Bool) → List Order → List ℕ → List Order
 reduced test [] ks = []
 reduced test (o ∷ os) ks = cond (test o) (less o (first ks) ∷ reduced test os (rest ks)) (o ∷ reduced test os ks)

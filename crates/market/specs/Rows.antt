@@ -57,7 +57,7 @@ trade-row fill n o k = record { kind = Trade; fill = fill; book = book-number (l
 abbrev pub some-row : ℕ → Row → List Row
 some-row k row = cond (eqb k 0) [] (row ∷ [])
 
--- the rows of one fill: the shares of a level's orders, in book order
+-- the rows of one fill: the shares of a level's orders, one for each, in book order
 abbrev pub fill-rows : ℕ → ℕ → List Order → List ℕ → List Row
 fill-rows fill n [] ks = []
 fill-rows fill n (o ∷ os) ks = some-row (first ks) (trade-row fill n o (first ks)) ++ fill-rows fill n os (rest ks)

@@ -124,7 +124,7 @@ module _ {Message : Type 0} (reading : Message → Result Call Refusal) where
     -- the numbers given are exactly those from 1 to the next less 1
     pub numbered : (n : ℕ) → 1 ≤ n → n < v .book .next → (q : ℕ) × Entered h n q
     pub no-other : (n : ℕ) → Given h n → (1 ≤ n) × (n < v .book .next)
-    -- every buyer or seller in a row, and every resting order, is an order whose number was given
+    -- every buyer or seller in a row, and every resting order, is an order whose number was given; as the law holds after each turn, no later than in that turn
     pub named : All (λ t. All (λ row. Absent-or-given h (row .buyer) × Absent-or-given h (row .seller)) (t .rows)) h
     pub rests-given : All (λ o. Given h (o .number)) (v .book .orders)
     -- no resting buy has a price at or above that of a resting sell of the same book
