@@ -1,18 +1,9 @@
 // Standard input, read in blocks and cut into lines.
-ghost use mathlib.Core.Path.{_≡_};
-ghost use mathlib.Core.List.{[]};
 ghost use Prim.Native.Nat.{_≤_};
-ghost use Rattle.std.specs.Of.Vec.{vec-items, vec-len};
-ghost use Rattle.std.specs.Vec.{made};
+ghost use Rattle.std.specs.Of.Vec.{vec-len};
 use crate::cutter::LineCutter;
-use std::alloc::AllocError;
-use std::alloc::Global;
-use std::error::AnyError;
-use std::io::Read;
-use std::io::Write;
 
-// How many bytes are read at once.
-const BLOCK: usize = 65_536;
+pub(crate) mod calls;
 
 // The bytes of the last block from `at` up to `end` are still to be cut.
 #[derive(Drop)]
@@ -22,66 +13,4 @@ pub(crate) struct LineReader {
     at: usize,
     end: usize,
     ghost inside: { (at ≤ end) × (end ≤ vec-len block) },
-}
-
-impl LineReader {
-    pub(crate) fn new(heap: Global) -> Result<LineReader, AllocError> {
-        let cutter = LineCutter::new(heap)?;
-        let block = vec![in heap; 0u8; BLOCK]?;
-        Ok(LineReader {
-            cutter,
-            block,
-            at: 0,
-            end: 0,
-        })
-    }
-
-    // The line that was cut last.
-    pub(crate) fn line(&self) -> &[u8] {
-        self.cutter.line()
-    }
-
-    // Reads the next block; false at the end of the input.
-    fn read_block(&mut self, rt: &LibcRuntime) -> Result<bool, AnyError> {
-        let n = rt.stdin().read(self.block.as_mut_slice())?;
-        self.at = 0;
-        self.end = n;
-        Ok(n > 0)
-    }
-
-    // Cuts on; true where a line is complete.
-    fn cut(&mut self) -> bool {
-        let cut = self.cutter.take(&self.block[self.at..self.end]);
-        self.at += cut.used;
-        cut.complete
-    }
-
-    // Cuts the next line; false at the end of the input. All that is to be written goes out before it waits for input.
-    pub(crate) fn next_line(
-        &mut self,
-        rt: &LibcRuntime,
-        out: &mut Vec<u8>,
-    ) -> Result<bool, AnyError> {
-        for _ in 0..u64::MAX {
-            if self.at == self.end {
-                flush(rt, out)?;
-                if !self.read_block(rt)? {
-                    return Ok(false);
-                }
-            }
-            if self.cut() {
-                return Ok(true);
-            }
-        }
-        Ok(false)
-    }
-}
-
-// Writes out what stands in the buffer, and empties it.
-pub(crate) fn flush(rt: &LibcRuntime, out: &mut Vec<u8>) -> Result<(), AnyError>
-    ensures { λ r. ⌜ made r (λ _. vec-items (now (out .exit)) ≡ []) ⌝ }
-{
-    rt.stdout().write_all(out.as_slice())?;
-    out.clear();
-    Ok(())
 }

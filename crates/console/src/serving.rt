@@ -1,8 +1,8 @@
 // A session from standard input to standard output.
 use crate::answering::answer_line;
+use crate::answering::open_venue;
 use crate::reader::LineReader;
-use crate::reader::flush;
-use crate::text::write_answer;
+use crate::reader::calls::flush;
 use line::gateway::Gateway;
 use line::product_named;
 use market::product::Product;
@@ -40,12 +40,8 @@ fn serve_under<R: AllocationRule + Drop>(
     reader: &mut LineReader,
     out: &mut Vec<u8>,
 ) -> Result<(), AnyError> {
-    match Gateway::build(rt.alloc(), rule, reader.line())? {
-        Err(refusal) => write_answer(out, Err(refusal))?,
-        Ok(opening) => {
-            write_answer(out, Ok(opening.answer))?;
-            answer_all(opening.gateway, rt, reader, out)?;
-        }
+    if let Some(gateway) = open_venue(rt.alloc(), rule, reader.line(), out)? {
+        answer_all(gateway, rt, reader, out)?;
     }
     flush(rt, out)
 }
