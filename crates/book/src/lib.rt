@@ -1,4 +1,6 @@
 // The resting orders of a venue, and what arrives, trades and leaves there.
+#![tactic(auto)]
+
 pub mod book;
 mod compare;
 mod find;

@@ -1,4 +1,6 @@
 // Cases that no stored session can show: short reports, many build lines, and a session served from memory.
+#![tactic(auto)]
+
 #[cfg(test)]
 mod builds;
 #[cfg(test)]

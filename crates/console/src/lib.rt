@@ -1,4 +1,6 @@
 // What stands around a venue: lines cut from its input, the text of its answers, and a whole session over a wire.
+#![tactic(auto)]
+
 mod answering;
 pub mod cutter;
 mod reader;

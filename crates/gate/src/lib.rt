@@ -1,4 +1,6 @@
 // A venue as its members meet it: what may enter, in which phase, and what is refused.
+#![tactic(auto)]
+
 mod fault;
 mod trading;
 pub mod venue;

@@ -1,4 +1,6 @@
 // Lines of bytes, read into calls, or refused with the place at fault.
+#![tactic(auto)]
+
 mod bands;
 mod check;
 mod clipping;

@@ -1,4 +1,6 @@
 // The market's plain types; its rules stand in specs/, and what follows from them in proofs/.
+#![tactic(auto)]
+
 pub mod acceptance;
 pub mod arrival;
 pub mod book_id;

@@ -1,4 +1,6 @@
 // A stored session: bytes and fields of every kind, long lines, an unclosed last line.
+#![tactic(auto)]
+
 use console::serving::serve;
 
 fn main(mut rt: HostRuntime) -> anyhow::Result<()> {

@@ -1,4 +1,6 @@
 // A stored session: all order numbers used up.
+#![tactic(auto)]
+
 use console::serving::serve;
 
 fn main(mut rt: HostRuntime) -> anyhow::Result<()> {

@@ -1,4 +1,6 @@
 // A stored session: options, divided pro rata.
+#![tactic(auto)]
+
 use console::serving::serve;
 
 fn main(mut rt: HostRuntime) -> anyhow::Result<()> {

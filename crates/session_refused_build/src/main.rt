@@ -1,4 +1,6 @@
 // A stored session: a build line that is refused.
+#![tactic(auto)]
+
 use console::serving::serve;
 
 fn main(mut rt: HostRuntime) -> anyhow::Result<()> {

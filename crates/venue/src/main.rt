@@ -1,4 +1,6 @@
 // The venue: lines of bytes in, answers and report rows out.
+#![tactic(auto)]
+
 use console::serving::serve;
 
 fn main(mut rt: HostRuntime) -> anyhow::Result<()> {

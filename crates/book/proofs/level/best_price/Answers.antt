@@ -16,7 +16,7 @@ loop-order-preserved c =
     let more = best_more c.args.book c.args.side os k no_order c.loop-order.best c.if-stands.best lt c.loop-order.invariant in
     let facing = ap (λ side. stands c.args.book side (get_or os k no_order)) c.opposite-facing.ensures in
     elim c.if-stands.branch [
-      | then-stands w ↦ more (w.best-is ∙ w.better-of-best.ensures ∙ sym (cond-true _ _ _ (sym (w.if-stands.ensures ∙ facing))))
+      | then-stands w ↦ more (w.best-is ∙ w.better_of-best.ensures ∙ sym (cond-true _ _ _ (sym (w.if-stands.ensures ∙ facing))))
       | else-stands w ↦ more (w.best-is ∙ sym (cond-false _ _ _ (sym (w.if-stands.ensures ∙ facing))))
     ]
 

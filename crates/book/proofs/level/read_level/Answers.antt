@@ -8,10 +8,10 @@ use Rattle.market.specs.Levels.{level, quantities}
 use Rattle.market.specs.Orders.{quantity_of}
 use Rattle.book.proofs.Levels.{no_order, read_more, total_push}
 use Rattle.book.proofs.level.read_level.Goals as goal
-use Rattle.book.proofs.level.read_level.Goals.{then-in-level, else-in-level}
+use Rattle.book.proofs.level.read_level.Goals.{then-in_level, else-in_level}
 
-pub overflow-add-total : goal.overflow-add-total
-overflow-add-total c = let q : quantity_of (get_or c.args.orders.now c.loop-i.i no_order) ≤ 10000 = All-get_or (λ (o : Order). quantity_of o ≤ 10000) c.args.orders.now c.loop-i.i no_order (omega arith) c.requires.small in omega (arith, c.lot-size-quantity.ensures)
+pub overflow_add-total : goal.overflow_add-total
+overflow_add-total c = let q : quantity_of (get_or c.args.orders.now c.loop-i.i no_order) ≤ 10000 = All-get_or (λ (o : Order). quantity_of o ≤ 10000) c.args.orders.now c.loop-i.i no_order (omega arith) c.requires.small in omega (arith, c.lot_size-quantity.ensures)
 
 pub loop-i-preserved : goal.loop-i-preserved
 loop-i-preserved c =
@@ -20,21 +20,21 @@ loop-i-preserved c =
     let lt : k < length os = omega arith in
     let q : quantity_of (get_or os k no_order) ≤ 10000 = All-get_or (λ (o : Order). quantity_of o ≤ 10000) os k no_order lt c.requires.small in
     let more = read_more c.args.book c.args.side c.args.price os k no_order (vec_items c.loop-i.collected) in
-    elim c.if-in-level.branch [
-      | then-in-level w ↦
-          let it : vec_items c.if-in-level.collected ≡ vec_items c.loop-i.collected ++ quantity_of (get_or os k no_order) ∷ [] = ap vec_items w.collected-is ∙ w.push-reserved.ensures.items ∙ ap (λ n. vec_items c.loop-i.collected ++ n ∷ []) w.lot-size-quantity.ensures in
+    elim c.if-in_level.branch [
+      | then-in_level w ↦
+          let it : vec_items c.if-in_level.collected ≡ vec_items c.loop-i.collected ++ quantity_of (get_or os k no_order) ∷ [] = ap vec_items w.collected-is ∙ w.push_reserved.ensures.items ∙ ap (λ n. vec_items c.loop-i.collected ++ n ∷ []) w.lot_size-quantity.ensures in
           let l = ap vec_len w.collected-is in (
-            w.total-is ∙ omega (arith, c.loop-i.invariant.0, w.lot-size-quantity.ensures, total_push (vec_items c.loop-i.collected) (quantity_of (get_or os k no_order)), ap total it),
-            more _ lt c.loop-i.invariant.1 (it ∙ sym (cond-true _ _ _ (sym w.if-in-level.ensures))),
+            w.total-is ∙ omega (arith, c.loop-i.invariant.0, w.lot_size-quantity.ensures, total_push (vec_items c.loop-i.collected) (quantity_of (get_or os k no_order)), ap total it),
+            more _ lt c.loop-i.invariant.1 (it ∙ sym (cond-true _ _ _ (sym w.if-in_level.ensures))),
             omega arith,
-            omega (arith, w.lot-size-quantity.ensures),
-            ap vec_capacity w.collected-is ∙ w.push-reserved.ensures.capacity ∙ c.loop-i.invariant.4,
+            omega (arith, w.lot_size-quantity.ensures),
+            ap vec_capacity w.collected-is ∙ w.push_reserved.ensures.capacity ∙ c.loop-i.invariant.4,
           )
-      | else-in-level w ↦
+      | else-in_level w ↦
           let it = ap vec_items w.collected-is in
           let l = ap vec_len w.collected-is in (
             w.total-is ∙ c.loop-i.invariant.0 ∙ sym (ap total it),
-            more _ lt c.loop-i.invariant.1 (it ∙ sym (cond-false _ _ _ (sym w.if-in-level.ensures))),
+            more _ lt c.loop-i.invariant.1 (it ∙ sym (cond-false _ _ _ (sym w.if-in_level.ensures))),
             omega arith,
             omega arith,
             ap vec_capacity w.collected-is ∙ c.loop-i.invariant.4,

@@ -13,20 +13,20 @@ use Rattle.book.proofs.matching.match_order.Goals as goal
 
 pub loop-left-init : goal.loop-left-init
 loop-left-init g c = (
-  going_start (g.R.AllocationRule.shares c.args.rule.now) c.args.taker.now (vec_items c.args.resting.now.orders) c.args.written.now c.args.report.now c.lot-size-left.result c.lot-size-left.ensures,
+  going_start (g.R.AllocationRule.shares c.args.rule.now) c.args.taker.now (vec_items c.args.resting.now.orders) c.args.written.now c.args.report.now c.lot_size-left.result c.lot_size-left.ensures,
   c.requires.small,
   c.requires.positive,
   c.requires.few,
   c.requires.room,
-  omega (arith, c.lot-size-left.ensures),
-  omega (arith, c.lot-size-left.ensures, c.requires.quantity),
+  omega (arith, c.lot_size-left.ensures),
+  omega (arith, c.lot_size-left.ensures, c.requires.quantity),
   refl,
 )
 
 pub returns-in-default : goal.returns-in-default
 returns-in-default g c =
     let o = c.args.taker.now in
-    let none : NoneWithin (lot_book o.lot) o.side o.price (vec_items c.loop-left.resting.orders) = subst (NoneWithin (lot_book o.lot) o.side o.price) c.as-slice.ensures.value c.in-default.ensures in
+    let none : NoneWithin (lot_book o.lot) o.side o.price (vec_items c.loop-left.resting.orders) = subst (NoneWithin (lot_book o.lot) o.side o.price) c.as_slice.ensures.value c.in-default.ensures in
     record {
       run = going_end _ _ _ _ _ c.loop-left.number c.loop-left.left (vec_items c.loop-left.resting.orders) c.loop-left.written c.loop-left.report c.loop-left.invariant.0 (no_more none);
       left = c.loop-left.invariant.5;
@@ -41,8 +41,8 @@ pub loop-left-smaller : goal.loop-left-smaller
 loop-left-smaller g c =
     let o = c.args.taker.now in
     let os = vec_items c.loop-left.resting.orders in
-    let found : BestWithin o os (Some c.in-Some.price) = subst (λ (xs : List Order). BestWithin o xs (Some c.in-Some.price)) c.as-slice.ensures.value c.in-Some.ensures in
-    omega (arith, c.fill-at-left.ensures.given, level_open (lot_book o.lot) (opposite o.side) c.in-Some.price os c.loop-left.invariant.2 found.0.there, c.loop-left-test.true)
+    let found : BestWithin o os (Some c.in-Some.price) = subst (λ (xs : List Order). BestWithin o xs (Some c.in-Some.price)) c.as_slice.ensures.value c.in-Some.ensures in
+    omega (arith, c.fill_at-left.ensures.given, level_open (lot_book o.lot) (opposite o.side) c.in-Some.price os c.loop-left.invariant.2 found.0.there, c.loop-left-test.true)
 
 pub loop-left-preserved : goal.loop-left-preserved
 loop-left-preserved g c =
@@ -51,23 +51,23 @@ loop-left-preserved g c =
     let os = vec_items c.loop-left.resting.orders in
     let q = c.loop-left.left in
     let p = c.in-Some.price in
-    let found : BestWithin o os (Some p) = subst (λ (xs : List Order). BestWithin o xs (Some p)) c.as-slice.ensures.value c.in-Some.ensures in
+    let found : BestWithin o os (Some p) = subst (λ (xs : List Order). BestWithin o xs (Some p)) c.as_slice.ensures.value c.in-Some.ensures in
     let test = in_level (lot_book o.lot) (opposite o.side) p in
     let ks = divided shares o p os q in
-    let eo : vec_items c.fill-at-left.new.resting.orders ≡ after_fill test os ks = c.fill-at-left.ensures.orders in
-    let eg : c.fill-at-left.result ≡ given o p os q = c.fill-at-left.ensures.given in
+    let eo : vec_items c.fill_at-left.new.resting.orders ≡ after_fill test os ks = c.fill_at-left.ensures.orders in
+    let eg : c.fill_at-left.result ≡ given o p os q = c.fill_at-left.ensures.given in
     let some = level_open (lot_book o.lot) (opposite o.side) p os c.loop-left.invariant.2 found.0.there in
     let k₀ = c.loop-left.resting.orders.ok.0 in
-    let k₁ = c.fill-at-left.new.resting.orders.ok.0 in
+    let k₁ = c.fill_at-left.new.resting.orders.ok.0 in
     let kept = bounded_after_fill test os ks (record { small = c.loop-left.invariant.1; few = omega (arith, c.loop-left.invariant.3) }) in (
-      rw (eo, eg) (going_fill shares o _ _ _ c.loop-left.number q os c.loop-left.written c.loop-left.report p c.fill-at-left.new.written c.fill-at-left.new.report c.loop-left.invariant.0 c.loop-left-test.true found.0 found.1 c.fill-at-left.ensures.rows),
+      rw (eo, eg) (going_fill shares o _ _ _ c.loop-left.number q os c.loop-left.written c.loop-left.report p c.fill_at-left.new.written c.fill_at-left.new.report c.loop-left.invariant.0 c.loop-left-test.true found.0 found.1 c.fill_at-left.ensures.rows),
       subst Small (sym eo) kept.small,
       subst Positive (sym eo) (positive_after test os ks),
       omega (arith, ap length eo, kept.few),
-      c.fill-at-left.ensures.room,
+      c.fill_at-left.ensures.room,
       omega (arith, c.loop-left.invariant.5),
       omega (arith, c.loop-left.invariant.6, c.loop-left-test.true),
-      c.fill-at-left.ensures.capacity ∙ c.loop-left.invariant.7,
+      c.fill_at-left.ensures.capacity ∙ c.loop-left.invariant.7,
     )
 
 pub returns : goal.returns

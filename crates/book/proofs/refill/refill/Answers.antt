@@ -7,9 +7,9 @@ loop-i-preserved g c =
     let xs = c.args.from.now in
     let x = c.index-from-i.result in
     let lt : c.loop-i.i < length xs = omega arith in (
-      c.push-reserved.ensures.items ∙ ap (λ ys. ys ++ x ∷ []) c.loop-i.invariant.0 ∙ ap (λ y. take c.loop-i.i xs ++ y ∷ []) c.index-from-i.is ∙ sym (take_more xs c.loop-i.i x lt),
+      c.push_reserved.ensures.items ∙ ap (λ ys. ys ++ x ∷ []) c.loop-i.invariant.0 ∙ ap (λ y. take c.loop-i.i xs ++ y ∷ []) c.index-from-i.is ∙ sym (take_more xs c.loop-i.i x lt),
       omega arith,
-      c.push-reserved.ensures.capacity ∙ c.loop-i.invariant.2,
+      c.push_reserved.ensures.capacity ∙ c.loop-i.invariant.2,
     )
 
 pub returns : goal.returns

@@ -38,11 +38,11 @@ loop-i-preserved c =
           let no-match : out o ≡ false = sym w.if-leaves.ensures in
           let stays : stay o ≡ true = ap not no-match in (
             w.count_is ∙ c.loop-i.invariant.0 ∙ sym (ap length (kept_no out os i no_order lt no-match)),
-            ap (λ (r : Resting). vec_items r.orders) w.draft-is ∙ w.push-reserved.ensures.items ∙ ap (λ (xs : List Order). xs ++ o ∷ []) c.loop-i.invariant.1 ∙ sym (kept_yes stay os i no_order lt stays),
+            ap (λ (r : Resting). vec_items r.orders) w.draft-is ∙ w.push_reserved.ensures.items ∙ ap (λ (xs : List Order). xs ++ o ∷ []) c.loop-i.invariant.1 ∙ sym (kept_yes stay os i no_order lt stays),
             rw (w.written-is, w.report-is) (subst (λ (xs : List Order). RowsMore c.args.written.now c.args.report.now (map cancel_row xs) c.loop-i.written c.loop-i.report) (sym (kept_no out os i no_order lt no-match)) c.loop-i.invariant.2),
-            omega (arith, ap (λ (r : Resting). vec_len r.orders) w.draft-is, w.push-reserved.ensures.len, c.loop-i.invariant.3),
+            omega (arith, ap (λ (r : Resting). vec_len r.orders) w.draft-is, w.push_reserved.ensures.len, c.loop-i.invariant.3),
             omega (arith, w.count_is, c.loop-i.invariant.4),
-            ap (λ (r : Resting). vec_capacity r.orders) w.draft-is ∙ w.push-reserved.ensures.capacity ∙ c.loop-i.invariant.5,
+            ap (λ (r : Resting). vec_capacity r.orders) w.draft-is ∙ w.push_reserved.ensures.capacity ∙ c.loop-i.invariant.5,
           )
     ]
 

@@ -22,17 +22,17 @@ returns g c =
     let rows = c.call-answer.new.report in
     let u = view c.call-answer.new.self.venue in
     let text = vec_items c.args.out.now in
-    let after = vec_items c.write-report.new.out in
+    let after = vec_items c.write_report.new.out in
     record {
-      answered = IfOk-weaker c.write-report.result
-          (λ _. after ≡ vec_items c.write-answer.new.out ++ report_text rows)
+      answered = IfOk-weaker c.write_report.result
+          (λ _. after ≡ vec_items c.write_answer.new.out ++ report_text rows)
           (λ _. Answered shares (view v) c.args.line.now room text after u)
           (λ _ e. record {
             answer = answer;
             rows = rows;
             follows = λ line is. subst (λ (asked : Result Call Refusal). Follows (Takes shares (view v) asked) (view v) room answer rows u) (ap line_call is ∙ same_verdict call_form line 1201 (omega arith)) c.call-answer.ensures.follows;
-            written = e ∙ ap (λ (xs : List ℕ). xs ++ report_text rows) c.in-ok-write-answer.ensures ∙ append_assoc text (answer_text answer) (report_text rows);
+            written = e ∙ ap (λ (xs : List ℕ). xs ++ report_text rows) c.in_ok-write_answer.ensures ∙ append_assoc text (answer_text answer) (report_text rows);
           })
-          c.write-report.ensures;
+          c.write_report.ensures;
       rule = c.call-answer.ensures.rule;
     }

@@ -8,23 +8,23 @@ use Rattle.console.specs.Serving.{AnsweredOn}
 use Rattle.console.proofs.Breaking.{refused_any, broken_off, broken_after}
 use Rattle.console.proofs.Turns.{begin_answers, replied, keep_answers, end_answers, next_answers}
 use Rattle.console.proofs.serving.answer_all.Goals as goal
-use Rattle.console.proofs.serving.answer_all.Goals.{then-len-ge-BLOCK+in-ok-flush, else-len-ge-BLOCK}
+use Rattle.console.proofs.serving.answer_all.Goals.{then-len-ge-BLOCK+in_ok-flush, else-len-ge-BLOCK}
 
 pub loop-init : goal.loop-init
 loop-init g c =
     let v = c.args.gateway.now.venue in
     (refl, λ rules used text on s. begin_answers (g.R.AllocationRule.shares v.rule) rules (view v) used text s)
 
-pub returns-in-err-next-line : goal.returns-in-err-next-line
-returns-in-err-next-line g c =
+pub returns-in_err-next_line : goal.returns-in_err-next_line
+returns-in_err-next_line g c =
     let v = c.args.gateway.now.venue in
     let u = c.loop.gateway.venue in
     let shares = g.R.AllocationRule.shares v.rule in
     record {
-      answered = IfOk-from_err c.from-residual.result _ c.from-residual.ensures.0;
-      failed = refused_any c.from-residual.result _ (λ rules used text on s.
+      answered = IfOk-from_err c.from_residual.result _ c.from_residual.ensures.0;
+      failed = refused_any c.from_residual.result _ (λ rules used text on s.
           let a = c.loop.invariant.1 rules used text on s in
-          c.in-err-next-line.ensures.failed rules a.used' (text ++ a.more) (replied shares rules (view v) used text (view u) a on) a.stands);
+          c.in_err-next_line.ensures.failed rules a.used' (text ++ a.more) (replied shares rules (view v) used text (view u) a on) a.stands);
     }
 
 pub returns-then-not-branch : goal.returns-then-not-branch
@@ -32,40 +32,40 @@ returns-then-not-branch g c =
     let v = c.args.gateway.now.venue in
     let u = c.loop.gateway.venue in
     let shares = g.R.AllocationRule.shares v.rule in
-    let wire = c.next-line.new.wire in
+    let wire = c.next_line.new.wire in
     record {
       answered = λ rules used text on s.
           let a = c.loop.invariant.1 rules used text on s in
-          end_answers shares rules (view v) used text (view u) a (subst (λ (found : Bool). Next found rules (g.W.Wire.log wire) (g.W.Wire.over wire) c.next-line.new.self (vec_items c.next-line.new.out) a.used' (text ++ a.more)) c.if-not-branch.true (c.in-ok-next-line.ensures.found rules a.used' (text ++ a.more) (replied shares rules (view v) used text (view u) a on) a.stands));
+          end_answers shares rules (view v) used text (view u) a (subst (λ (found : Bool). Next found rules (g.W.Wire.log wire) (g.W.Wire.over wire) c.next_line.new.self (vec_items c.next_line.new.out) a.used' (text ++ a.more)) c.if-not-branch.true (c.in_ok-next_line.ensures.found rules a.used' (text ++ a.more) (replied shares rules (view v) used text (view u) a on) a.stands));
       failed = tt;
     }
 
-pub returns-in-err-answer-line : goal.returns-in-err-answer-line
-returns-in-err-answer-line g c =
+pub returns-in_err-answer_line : goal.returns-in_err-answer_line
+returns-in_err-answer_line g c =
     let v = c.args.gateway.now.venue in
     let u = c.loop.gateway.venue in
     let shares = g.R.AllocationRule.shares v.rule in
-    let wire = c.next-line.new.wire in
+    let wire = c.next_line.new.wire in
     record {
-      answered = IfOk-from_err c.from-residual-in-err-answer-line.result _ c.from-residual-in-err-answer-line.ensures.0;
-      failed = refused_any c.from-residual-in-err-answer-line.result _ (λ rules used text on s.
+      answered = IfOk-from_err c.from_residual-in_err-answer_line.result _ c.from_residual-in_err-answer_line.ensures.0;
+      failed = refused_any c.from_residual-in_err-answer_line.result _ (λ rules used text on s.
           let a = c.loop.invariant.1 rules used text on s in
-          let m = subst (λ (found : Bool). Next found rules (g.W.Wire.log wire) (g.W.Wire.over wire) c.next-line.new.self (vec_items c.next-line.new.out) a.used' (text ++ a.more)) c.if-not-branch.false (c.in-ok-next-line.ensures.found rules a.used' (text ++ a.more) (replied shares rules (view v) used text (view u) a on) a.stands) in
+          let m = subst (λ (found : Bool). Next found rules (g.W.Wire.log wire) (g.W.Wire.over wire) c.next_line.new.self (vec_items c.next_line.new.out) a.used' (text ++ a.more)) c.if-not-branch.false (c.in_ok-next_line.ensures.found rules a.used' (text ++ a.more) (replied shares rules (view v) used text (view u) a on) a.stands) in
           broken_off m.used' (text ++ a.more) (closed_lines a.used') (m.line ∷ []) m.lines (replied shares rules (view v) used text (view u) a on).reply m.stands (g.W.Wire.log wire) m.stands.logged);
     }
 
-pub returns-in-err-flush : goal.returns-in-err-flush
-returns-in-err-flush g c =
+pub returns-in_err-flush : goal.returns-in_err-flush
+returns-in_err-flush g c =
     let v = c.args.gateway.now.venue in
     let u = c.loop.gateway.venue in
     let shares = g.R.AllocationRule.shares v.rule in
-    let w = c.answer-line.new.gateway.venue in
+    let w = c.answer_line.new.gateway.venue in
     record {
-      answered = IfOk-from_err c.from-residual-in-err-flush.result _ c.from-residual-in-err-flush.ensures.0;
-      failed = refused_any c.from-residual-in-err-flush.result _ (λ rules used text on s.
+      answered = IfOk-from_err c.from_residual-in_err-flush.result _ c.from_residual-in_err-flush.ensures.0;
+      failed = refused_any c.from_residual-in_err-flush.result _ (λ rules used text on s.
           let a = c.loop.invariant.1 rules used text on s in
-          let b = next_answers shares rules (view v) used text (g.W.Wire.log c.next-line.new.wire) (g.W.Wire.over c.next-line.new.wire) c.next-line.new.self (vec_items c.next-line.new.out) (view u) (view w) a c.if-not-branch.false (c.in-ok-next-line.ensures.found rules a.used' (text ++ a.more) (replied shares rules (view v) used text (view u) a on) a.stands) (ap g.R.AllocationRule.shares c.loop.invariant.0) c.line.ensures (omega (arith, c.loop.auto.report, c.requires)) c.in-ok-answer-line.ensures.answered in
-          c.in-err-flush.ensures.failed rules c.next-line.new.self b.used' (text ++ b.more) (replied shares rules (view v) used text (view w) b on).reply b.stands);
+          let b = next_answers shares rules (view v) used text (g.W.Wire.log c.next_line.new.wire) (g.W.Wire.over c.next_line.new.wire) c.next_line.new.self (vec_items c.next_line.new.out) (view u) (view w) a c.if-not-branch.false (c.in_ok-next_line.ensures.found rules a.used' (text ++ a.more) (replied shares rules (view v) used text (view u) a on) a.stands) (ap g.R.AllocationRule.shares c.loop.invariant.0) c.line.ensures (omega (arith, c.loop.auto.report, c.requires)) c.in_ok-answer_line.ensures.answered in
+          c.in_err-flush.ensures.failed rules c.next_line.new.self b.used' (text ++ b.more) (replied shares rules (view v) used text (view w) b on).reply b.stands);
     }
 
 pub loop-preserved : goal.loop-preserved
@@ -73,15 +73,15 @@ loop-preserved g c =
     let v = c.args.gateway.now.venue in
     let u = c.loop.gateway.venue in
     let shares = g.R.AllocationRule.shares v.rule in
-    let w = c.answer-line.new.gateway.venue in
-    let reader = c.next-line.new.self in (
-      c.answer-line.ensures.rule ∙ c.loop.invariant.0,
+    let w = c.answer_line.new.gateway.venue in
+    let reader = c.next_line.new.self in (
+      c.answer_line.ensures.rule ∙ c.loop.invariant.0,
       λ rules used text on s.
           let a = c.loop.invariant.1 rules used text on s in
-          let b = next_answers shares rules (view v) used text (g.W.Wire.log c.next-line.new.wire) (g.W.Wire.over c.next-line.new.wire) c.next-line.new.self (vec_items c.next-line.new.out) (view u) (view w) a c.if-not-branch.false (c.in-ok-next-line.ensures.found rules a.used' (text ++ a.more) (replied shares rules (view v) used text (view u) a on) a.stands) (ap g.R.AllocationRule.shares c.loop.invariant.0) c.line.ensures (omega (arith, c.loop.auto.report, c.requires)) c.in-ok-answer-line.ensures.answered in
+          let b = next_answers shares rules (view v) used text (g.W.Wire.log c.next_line.new.wire) (g.W.Wire.over c.next_line.new.wire) c.next_line.new.self (vec_items c.next_line.new.out) (view u) (view w) a c.if-not-branch.false (c.in_ok-next_line.ensures.found rules a.used' (text ++ a.more) (replied shares rules (view v) used text (view u) a on) a.stands) (ap g.R.AllocationRule.shares c.loop.invariant.0) c.line.ensures (omega (arith, c.loop.auto.report, c.requires)) c.in_ok-answer_line.ensures.answered in
           let goal : (wire : g.row.W.Denot) (out : List ℕ) → Type 0 = λ wire out. AnsweredOn rules shares (view v) (g.W.Wire.log wire) reader out used text (view w) in
           elim c.if-len-ge-BLOCK.branch [
-            | then-len-ge-BLOCK+in-ok-flush x ↦ transport (λ i. goal (sym x.wire-is i) (vec_items (sym x.out-is i))) (keep_answers shares rules (view v) used text (view w) (x.in-ok-flush.ensures.keeps rules reader) b)
+            | then-len-ge-BLOCK+in_ok-flush x ↦ transport (λ i. goal (sym x.wire-is i) (vec_items (sym x.out-is i))) (keep_answers shares rules (view v) used text (view w) (x.in_ok-flush.ensures.keeps rules reader) b)
             | else-len-ge-BLOCK x ↦ transport (λ i. goal (sym x.wire-is i) (vec_items (sym x.out-is i))) b
           ],
     )

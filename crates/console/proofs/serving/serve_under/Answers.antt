@@ -26,8 +26,8 @@ returns-in-None g c =
     let reader = c.args.reader.now in
     let head = c.line.result.now in
     let out = vec_items c.args.out.now in
-    let out' = vec_items c.open-venue.new.out in
-    let told = subst (λ (o : Option (Gateway g.row.R.Denot)). BuildAnswered shares rule head out out' o) c.in-None.is c.in-ok-open-venue.ensures in
+    let out' = vec_items c.open_venue.new.out in
+    let told = subst (λ (o : Option (Gateway g.row.R.Denot)). BuildAnswered shares rule head out out' o) c.in-None.is c.in_ok-open_venue.ensures in
     let first = λ (line : List ℕ) (is : kept reader.cutter ≡ start line). first_refused shares rule head line out out' (c.line.ensures ∙ is) told in
     record {
       served = made_both c.flush.result
@@ -50,52 +50,52 @@ returns-in-None g c =
           c.flush.ensures.failed;
     }
 
-pub returns-in-ok-report : goal.returns-in-ok-report
-returns-in-ok-report g c =
+pub returns-in_ok-report : goal.returns-in_ok-report
+returns-in_ok-report g c =
     let log = g.W.Wire.log in
-    let log' = log c.answer-all.new.wire in
-    let over = g.W.Wire.over c.answer-all.new.wire in
+    let log' = log c.answer_all.new.wire in
+    let over = g.W.Wire.over c.answer_all.new.wire in
     let shares = g.R.AllocationRule.shares in
     let rule = c.args.rule in
     let gateway = c.in-Some.gateway in
     let v = view gateway.venue in
     let reader = c.args.reader.now in
-    let reader' = c.answer-all.new.reader in
+    let reader' = c.answer_all.new.reader in
     let head = c.line.result.now in
     let out = vec_items c.args.out.now in
-    let out' = vec_items c.open-venue.new.out in
-    let out'' = vec_items c.answer-all.new.out in
-    let told = subst (λ (o : Option (Gateway g.row.R.Denot)). BuildAnswered shares rule head out out' o) c.in-Some.is c.in-ok-open-venue.ensures in
+    let out' = vec_items c.open_venue.new.out in
+    let out'' = vec_items c.answer_all.new.out in
+    let told = subst (λ (o : Option (Gateway g.row.R.Denot)). BuildAnswered shares rule head out out' o) c.in-Some.is c.in_ok-open_venue.ensures in
     let first = λ (line : List ℕ) (is : kept reader.cutter ≡ start line). first_built shares rule head line out out' (c.line.ensures ∙ is) gateway told in
     let on : (rules : Product → List ℕ → ℕ → List ℕ) (used line : List ℕ) → Suits rules (shares rule) line → closed_lines used ≡ line ∷ [] → (is : kept reader.cutter ≡ start line) → RepliesOn rules (shares gateway.venue.rule) v used (answer_text (Ok (first line is).answer)) =
     λ rules used line suits only is.
     let f = first line is in
     subst (λ r. RepliesOn rules (shares r) v used (answer_text (Ok f.answer))) (sym f.rule_is) (reply_on rules (shares rule) used line f.answer v suits only f.accepted f.opened) in
     record {
-      served = IfOk-weaker c.answer-all.result
+      served = IfOk-weaker c.answer_all.result
           (λ _. (rules : Product → List ℕ → ℕ → List ℕ) (used text : List ℕ) → RepliesOn rules (shares gateway.venue.rule) v used text → Stands rules (log c.args.wire.now) reader out' used text → AllAnswered rules (shares gateway.venue.rule) v log' over reader' out'' used text)
           (λ _. (rules : Product → List ℕ → ℕ → List ℕ) (used line : List ℕ) → Suits rules (shares rule) line → Stands rules (log c.args.wire.now) reader out used [] → closed_lines used ≡ line ∷ [] → kept reader.cutter ≡ start line → Served rules log' over)
           (λ _ all rules used line suits s only is.
           let text = answer_text (Ok (first line is).answer) in
           served_all rules log' over reader' (shares gateway.venue.rule) v used text out'' (on rules used line suits only is) (all rules used text (on rules used line suits only is) (appended text (first line is).written s)))
-          c.answer-all.ensures.answered;
-      failed = refused_then c.answer-all.result
+          c.answer_all.ensures.answered;
+      failed = refused_then c.answer_all.result
           ((rules : Product → List ℕ → ℕ → List ℕ) (used text : List ℕ) → RepliesOn rules (shares gateway.venue.rule) v used text → Stands rules (log c.args.wire.now) reader out' used text → BrokenOff rules log')
           ((rules : Product → List ℕ → ℕ → List ℕ) (used line : List ℕ) → Suits rules (shares rule) line → Stands rules (log c.args.wire.now) reader out used [] → closed_lines used ≡ line ∷ [] → kept reader.cutter ≡ start line → BrokenOff rules log')
           (λ b rules used line suits s only is. b rules used (answer_text (Ok (first line is).answer)) (on rules used line suits only is) (appended (answer_text (Ok (first line is).answer)) (first line is).written s))
-          c.answer-all.ensures.failed;
+          c.answer_all.ensures.failed;
     }
 
-pub returns-in-err-open-venue : goal.returns-in-err-open-venue
-returns-in-err-open-venue g c =
+pub returns-in_err-open_venue : goal.returns-in_err-open_venue
+returns-in_err-open_venue g c =
     record {
-      served = IfOk-from_err c.from-residual.result _ c.from-residual.ensures.0;
-      failed = refused_any c.from-residual.result _ (λ rules used line _ s only _. broken_unanswered used line only s);
+      served = IfOk-from_err c.from_residual.result _ c.from_residual.ensures.0;
+      failed = refused_any c.from_residual.result _ (λ rules used line _ s only _. broken_unanswered used line only s);
     }
 
-pub returns-in-err-report : goal.returns-in-err-report
-returns-in-err-report g c =
+pub returns-in_err-report : goal.returns-in_err-report
+returns-in_err-report g c =
     record {
-      served = IfOk-from_err c.from-residual-in-err-report.result _ c.from-residual-in-err-report.ensures.0;
-      failed = refused_any c.from-residual-in-err-report.result _ (λ rules used line _ s only _. broken_unanswered used line only s);
+      served = IfOk-from_err c.from_residual-in_err-report.result _ c.from_residual-in_err-report.ensures.0;
+      failed = refused_any c.from_residual-in_err-report.result _ (λ rules used line _ s only _. broken_unanswered used line only s);
     }

@@ -1,4 +1,4 @@
 use Rattle.console.proofs.text.+write_decimal.Given as goal
 
-abbrev pub decreases-write-decimal : goal.decreases-write-decimal
-decreases-write-decimal l = l.n
+abbrev pub decreases-write_decimal : goal.decreases-write_decimal
+decreases-write_decimal l = l.n

@@ -5,5 +5,5 @@ use Rattle.console.proofs.text.write_field.Goals as goal
 
 pub returns : goal.returns
 returns c = let v = vec_items c.args.out.now in
-    then v _ _ c.in-ok-push.ensures.items
-    c.in-ok-write-decimal.ensures ∙ ap (λ n. v ++ field n) c.from.ensures
+    then v _ _ c.in_ok-push.ensures.items
+    c.in_ok-write_decimal.ensures ∙ ap (λ n. v ++ field n) c.from.ensures

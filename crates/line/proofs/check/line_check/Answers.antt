@@ -6,8 +6,8 @@ use Rattle.line.specs.Verdicts.{check_code}
 use Rattle.line.proofs.Places.{refused_by}
 use Rattle.line.proofs.check.line_check.Goals as goal
 
-pub overflow-add-result : goal.overflow-add-result
-overflow-add-result c =
+pub overflow_add-result : goal.overflow_add-result
+overflow_add-result c =
     let h = refused_by call_form c.args.line.now c.in-Err.refusal c.in-Err.ensures.value in
     rw c.code-code.ensures (omega (arith, h.1, h.2))
 

@@ -3,14 +3,14 @@ use Rattle.line.specs.Bytes.{allowed}
 use Rattle.std.proofs.lemmas.List.Sums.{prefix_len-drop_yes, prefix_len-drop_no, prefix_len-drop_all}
 use Rattle.line.proofs.reader.allowed_len.Goals as goal
 
-pub returns-then-not-is-allowed : goal.returns-then-not-is-allowed
-returns-then-not-is-allowed c =
-    let e = prefix_len-drop_no allowed c.args.bytes.now c.loop-i.i 0 c.loop-i-test.true (sym c.is-allowed.ensures ∙ c.if-not-is-allowed.true) in
+pub returns-then-not-is_allowed : goal.returns-then-not-is_allowed
+returns-then-not-is_allowed c =
+    let e = prefix_len-drop_no allowed c.args.bytes.now c.loop-i.i 0 c.loop-i-test.true (sym c.is_allowed.ensures ∙ c.if-not-is_allowed.true) in
     record { within = omega arith; value = omega (arith, c.loop-i.invariant) }
 
 pub loop-i-preserved : goal.loop-i-preserved
 loop-i-preserved c =
-    let e = prefix_len-drop_yes allowed c.args.bytes.now c.loop-i.i 0 c.loop-i-test.true (sym c.is-allowed.ensures ∙ c.if-not-is-allowed.false) in
+    let e = prefix_len-drop_yes allowed c.args.bytes.now c.loop-i.i 0 c.loop-i-test.true (sym c.is_allowed.ensures ∙ c.if-not-is_allowed.false) in
     omega (arith, c.loop-i.invariant)
 
 pub returns : goal.returns

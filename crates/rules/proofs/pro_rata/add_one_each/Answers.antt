@@ -5,7 +5,7 @@ use Rattle.rules.specs.Writes.{write_end}
 use Rattle.rules.proofs.pro_rata.add_one_each.Goals as goal
 
 pub loop-i-preserved : goal.loop-i-preserved
-loop-i-preserved c = one_each_next c.args.quantities.now c.loop-i.out c.loop-i.i c.loop-i.left c.one-more-more.result _ _ (omega arith) (omega arith) c.one-more-more.ensures refl refl ∙ c.loop-i.invariant
+loop-i-preserved c = one_each_next c.args.quantities.now c.loop-i.out c.loop-i.i c.loop-i.left c.one_more-more.result _ _ (omega arith) (omega arith) c.one_more-more.ensures refl refl ∙ c.loop-i.invariant
 
 pub returns : goal.returns
 returns c =

@@ -2,8 +2,8 @@ use Rattle.std.proofs.Common.{arith}
 use Rattle.rules.proofs.Total.{total_le, total_more, total_end}
 use Rattle.rules.proofs.pro_rata.sum_of.Goals as goal
 
-pub overflow-add-sum : goal.overflow-add-sum
-overflow-add-sum c =
+pub overflow_add-sum : goal.overflow_add-sum
+overflow_add-sum c =
     let qs = c.args.quantities.now in
     omega (arith, total_le qs c.requires.small, total_more qs c.loop-q.q-index c.loop-q-test.true, c.loop-q.invariant)
 

@@ -4,13 +4,13 @@ use Rattle.rules.specs.ProRataLemmas.{part_le, parts_below, parts_more, parts_en
 use Rattle.rules.specs.Writes.{write_more, write_end}
 use Rattle.rules.proofs.pro_rata.write_parts.Goals as goal
 
-pub overflow-cast-part-in-loop-i-3 : goal.overflow-cast-part-in-loop-i-3
-overflow-cast-part-in-loop-i-3 c =
+pub overflow_cast-part-in-loop-i-3 : goal.overflow_cast-part-in-loop-i-3
+overflow_cast-part-in-loop-i-3 c =
     let q = get_or c.args.quantities.now c.loop-i.i 0 in
     omega (arith, part_le c.args.give c.args.sum c.requires.short q, c.requires.domain.small c.loop-i.i)
 
-pub overflow-add-given : goal.overflow-add-given
-overflow-add-given c =
+pub overflow_add-given : goal.overflow_add-given
+overflow_add-given c =
     let qs = c.args.quantities.now in
     omega (arith, parts_below c.args.give c.args.sum c.requires.short qs c.requires.summed, parts_more c.args.give c.args.sum qs c.loop-i.i c.loop-i-test.true, c.loop-i.invariant.1)
 

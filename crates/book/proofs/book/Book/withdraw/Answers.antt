@@ -18,8 +18,8 @@ close-requires c =
     let b = c.args.self.now in
     let os = vec_items b.resting.orders in
     let stay : Order → Bool = λ o. not (leaves c.args.which o) in
-    let t = c.take-out-orders in
-    let same : vec_items t.new.draft.orders ≡ filter stay os = t.ensures.drafted ∙ ap (filter stay) c.as-slice-resting.ensures.value in
+    let t = c.take_out-orders in
+    let same : vec_items t.new.draft.orders ≡ filter stay os = t.ensures.drafted ∙ ap (filter stay) c.as_slice-resting.ensures.value in
     let long₀ = b.resting.orders.ok.0 in
     let long₁ = t.new.draft.orders.ok.0 in
     record {
@@ -35,9 +35,9 @@ close-requires c =
 pub returns : goal.returns
 returns c =
     let m = book_state c.args.self.now in
-    let t = c.take-out-orders in
+    let t = c.take_out-orders in
     let s = c.start-written in
-    let value = c.as-slice-resting.ensures.value in
+    let value = c.as_slice-resting.ensures.value in
     let out = leaves c.args.which in
     let long : length t.new.report ≡ length c.args.report.now = t.auto.report ∙ blank_long s.new.report (length c.args.report.now) s.ensures.blank in
     follows_closed (λ e. e ≡ withdrawn c.args.which m) m (length c.args.report.now) (Switched t.result) (vec_items t.new.draft.orders) m.next t.new.written t.new.report c.close.result c.close.new.report (book_state c.close.new.self) long

@@ -3,19 +3,19 @@ use Rattle.std.proofs.lemmas.List.Filters.{FiltersInPlace-all, FiltersInPlace-mo
 use Rattle.std.proofs.lemmas.Bool.{lt-ltb, le-ltb}
 use Rattle.book.specs.declared.resting.Resting.{Resting}
 use Rattle.book.proofs.resting.Resting.drop_filled.Goals as goal
-use Rattle.book.proofs.resting.Resting.drop_filled.Goals.{then-lot-size-gt0, else-lot-size-gt0}
+use Rattle.book.proofs.resting.Resting.drop_filled.Goals.{then-lot_size-gt0, else-lot_size-gt0}
 
 pub loop-i-preserved : goal.loop-i-preserved
 loop-i-preserved c =
     let lt : c.loop-i.i < length (vec_items c.loop-i.self.orders) = omega arith in
-    let size = c.lot-size.ensures in
-    elim c.if-lot-size-gt0.branch [
-      | then-lot-size-gt0 w ↦ (
-        rw (w.self-is, w.k-is) (FiltersInPlace-more_set c.loop-i.invariant.0 lt (lt-ltb _ _ (omega (arith, w.if-lot-size-gt0.true))) c.index-order.ensures),
+    let size = c.lot_size.ensures in
+    elim c.if-lot_size-gt0.branch [
+      | then-lot_size-gt0 w ↦ (
+        rw (w.self-is, w.k-is) (FiltersInPlace-more_set c.loop-i.invariant.0 lt (lt-ltb _ _ (omega (arith, w.if-lot_size-gt0.true))) c.index-order.ensures),
         ap (λ (b : Resting). vec_capacity b.orders) w.self-is ∙ c.loop-i.invariant.1,
       )
-      | else-lot-size-gt0 w ↦ (
-        rw (w.self-is, w.k-is) (FiltersInPlace-more_no c.loop-i.invariant.0 lt (le-ltb _ _ (omega (arith, w.if-lot-size-gt0.false))) c.index-order.ensures),
+      | else-lot_size-gt0 w ↦ (
+        rw (w.self-is, w.k-is) (FiltersInPlace-more_no c.loop-i.invariant.0 lt (le-ltb _ _ (omega (arith, w.if-lot_size-gt0.false))) c.index-order.ensures),
         ap (λ (b : Resting). vec_capacity b.orders) w.self-is ∙ c.loop-i.invariant.1,
       )
     ]

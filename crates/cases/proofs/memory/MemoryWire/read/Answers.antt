@@ -18,9 +18,9 @@ returns c =
     let at = c.args.self.now.at in
     let xs = vec_items c.args.self.now.input in
     let n = c.min-n.result in
-    let copied = c.copy-from-slice.new.self in
-    let long : length copied ≡ n = omega (arith, c.copy-from-slice.ensures.len, length-take (n - 0) c.args.block.now, c.min-n.ensures, c.min.ensures) in
-    let same : copied ≡ take n (drop at xs) = c.copy-from-slice.ensures.after ∙ (λ i. take (let e : (at + n) - at ≡ n = omega arith in e i) (drop at (c.deref.ensures.value i))) in
+    let copied = c.copy_from_slice.new.self in
+    let long : length copied ≡ n = omega (arith, c.copy_from_slice.ensures.len, length-take (n - 0) c.args.block.now, c.min-n.ensures, c.min.ensures) in
+    let same : copied ≡ take n (drop at xs) = c.copy_from_slice.ensures.after ∙ (λ i. take (let e : (at + n) - at ≡ n = omega arith in e i) (drop at (c.deref.ensures.value i))) in
     record {
       within = front_fits n copied _ long;
       logged = λ events h. (

@@ -13,8 +13,8 @@ past-requires c = omega (arith, before_le c.args.block.now)
 pub returns : goal.returns
 returns c =
     let block = c.args.block.now in
-    let n = c.line-length-n.result in
-    let e = c.line-length-n.ensures in
+    let n = c.line_length-n.result in
+    let e = c.line_length-n.ensures in
     record {
       closed = less_found block n e;
       count = used_is block n e c.past.ensures;

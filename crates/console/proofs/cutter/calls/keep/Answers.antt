@@ -4,9 +4,9 @@ use Rattle.console.proofs.cutter.calls.keep.Goals as goal
 
 pub loop-i-preserved : goal.loop-i-preserved
 loop-i-preserved c = (
-  push_more (vec_items c.args.line.now) c.args.more.now c.loop-i.i (omega arith) c.loop-i.invariant.0 c.push-reserved.ensures.items,
+  push_more (vec_items c.args.line.now) c.args.more.now c.loop-i.i (omega arith) c.loop-i.invariant.0 c.push_reserved.ensures.items,
   omega arith,
-  c.push-reserved.ensures.capacity ∙ c.loop-i.invariant.2,
+  c.push_reserved.ensures.capacity ∙ c.loop-i.invariant.2,
 )
 
 pub returns : goal.returns

@@ -4,19 +4,19 @@ use Rattle.console.proofs.Breaking.{refused_any, broken_after}
 use Rattle.console.proofs.Standing.{cut_found, cut_none, still_reply, still_then, found_then, none_then}
 use Rattle.console.proofs.reader.LineReader.next_line.Goals as goal
 
-pub returns-in-err-fill : goal.returns-in-err-fill
-returns-in-err-fill g c =
+pub returns-in_err-fill : goal.returns-in_err-fill
+returns-in_err-fill g c =
     record {
-      found = IfOk-from_err c.from-residual.result _ c.from-residual.ensures.0;
-      failed = refused_any c.from-residual.result _ (λ rules used text ready s.
+      found = IfOk-from_err c.from_residual.result _ c.from_residual.ensures.0;
+      failed = refused_any c.from_residual.result _ (λ rules used text ready s.
           let t = c.loop.invariant rules used text ready s in
-          c.in-err-fill.ensures.failed rules t.used' text (still_reply text t ready) t.stands);
+          c.in_err-fill.ensures.failed rules t.used' text (still_reply text t ready) t.stands);
     }
 
 pub returns-then-not-branch : goal.returns-then-not-branch
 returns-then-not-branch g c =
     record {
-      found = λ rules used text ready s. (still_then text c.in-ok-fill.ensures.keeps ready (c.loop.invariant rules used text ready s), c.in-ok-fill.ensures.ended c.if-not-branch.true);
+      found = λ rules used text ready s. (still_then text c.in_ok-fill.ensures.keeps ready (c.loop.invariant rules used text ready s), c.in_ok-fill.ensures.ended c.if-not-branch.true);
       failed = tt;
     }
 
@@ -24,14 +24,14 @@ pub returns-then-cut : goal.returns-then-cut
 returns-then-cut g c =
     record {
       found = λ rules used text ready s.
-          let t = still_then text c.in-ok-fill.ensures.keeps ready (c.loop.invariant rules used text ready s) in
+          let t = still_then text c.in_ok-fill.ensures.keeps ready (c.loop.invariant rules used text ready s) in
           found_then text t.used' t.lines (cut_found c.fill.new.self c.cut.new.self true c.if-cut.ensures rules (g.W.Wire.log c.fill.new.wire) (vec_items c.fill.new.out) t.used' text t.stands refl);
       failed = tt;
     }
 
 pub loop-preserved : goal.loop-preserved
 loop-preserved g c = λ rules used text ready s.
-    let t = still_then text c.in-ok-fill.ensures.keeps ready (c.loop.invariant rules used text ready s) in
+    let t = still_then text c.in_ok-fill.ensures.keeps ready (c.loop.invariant rules used text ready s) in
     none_then text t.used' t.lines (cut_none c.fill.new.self c.cut.new.self false c.if-cut.ensures rules (g.W.Wire.log c.fill.new.wire) (vec_items c.fill.new.out) t.used' text t.stands refl)
 
 pub returns : goal.returns

@@ -9,9 +9,9 @@ use Rattle.console.proofs.reader.LineReader.read_block.Goals as goal
 
 pub returns : goal.returns
 returns g c =
-    let read = c.in-ok-n.ensures in
+    let read = c.in_ok-n.ensures in
     let block = c.read.new.block in
-    let n = c.in-ok-n.n in
+    let n = c.in_ok-n.n in
     let long : length block ≡ vec_len c.args.self.now.block = omega arith in
     let some = ap (λ xs. take (n - 0) (drop 0 xs)) (with_items_is c.args.self.now.block block long) ∙ front_unread n block in
     record {
@@ -23,12 +23,12 @@ returns g c =
       failed = tt;
     }
 
-pub returns-in-err-n : goal.returns-in-err-n
-returns-in-err-n g c =
-    let err = c.from-residual.ensures.0 in
+pub returns-in_err-n : goal.returns-in_err-n
+returns-in_err-n g c =
+    let err = c.from_residual.ensures.0 in
     record {
-      keeps = IfOk-from_err c.from-residual.result _ err;
-      ended = IfOk-from_err c.from-residual.result _ err;
-      some = IfOk-from_err c.from-residual.result _ err;
-      failed = refused_any c.from-residual.result _ (λ rules used text ready s. broken_off used text (closed_lines used) [] (sym (append-nil (closed_lines used))) ready.reply s (g.W.Wire.log c.read.new.self) (c.in-err-n.ensures.failed s.events s.logged));
+      keeps = IfOk-from_err c.from_residual.result _ err;
+      ended = IfOk-from_err c.from_residual.result _ err;
+      some = IfOk-from_err c.from_residual.result _ err;
+      failed = refused_any c.from_residual.result _ (λ rules used text ready s. broken_off used text (closed_lines used) [] (sym (append-nil (closed_lines used))) ready.reply s (g.W.Wire.log c.read.new.self) (c.in_err-n.ensures.failed s.events s.logged));
     }

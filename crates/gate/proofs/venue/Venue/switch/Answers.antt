@@ -20,8 +20,8 @@ returns-in-default g c =
       rule = refl;
     }
 
-pub returns-in-err-answer : goal.returns-in-err-answer
-returns-in-err-answer g c =
+pub returns-in_err-answer : goal.returns-in_err-answer
+returns-in_err-answer g c =
     let v = view c.args.self.now in
     let w = c.args.event in
     let room = length c.args.report.now in
@@ -30,11 +30,11 @@ returns-in-err-answer g c =
     let m = book_state c.withdraw.new.self in
     let f : Follows (λ e. e ≡ withdrawn (withdraws w) v.book) v.book room c.withdraw.result c.withdraw.new.report m =
     subst (λ (x : Withdrawal). Follows (λ e. e ≡ withdrawn x v.book) v.book room c.withdraw.result c.withdraw.new.report m) t.1 c.withdraw.ensures in
-    let p = err_from_is_err_and c.from-residual.result c.from-residual.ensures.1 in
-    let same : c.withdraw.result ≡ c.from-residual.result = c.in-err-answer.was ∙ sym (p.1 ∙ ap Err p.2) in
+    let p = err_from_is_err_and c.from_residual.result c.from_residual.ensures.1 in
+    let same : c.withdraw.result ≡ c.from_residual.result = c.in_err-answer.was ∙ sym (p.1 ∙ ap Err p.2) in
     record {
       follows = subst (λ (r : Result (ℕ × ℕ) Refusal). Follows (Does shares v (Switch w)) v room r c.withdraw.new.report (with_book v m)) same
-          (switch_refused shares v w c.in-Some.phase t.0 room c.withdraw.result c.withdraw.new.report m f c.in-err-answer.field-0.0 c.in-err-answer.was);
+          (switch_refused shares v w c.in-Some.phase t.0 room c.withdraw.result c.withdraw.new.report m f c.in_err-answer.field-0.0 c.in_err-answer.was);
       rule = refl;
     }
 
@@ -49,7 +49,7 @@ returns g c =
     let f : Follows (λ e. e ≡ withdrawn (withdraws w) v.book) v.book room c.withdraw.result c.withdraw.new.report m =
     subst (λ (x : Withdrawal). Follows (λ e. e ≡ withdrawn x v.book) v.book room c.withdraw.result c.withdraw.new.report m) t.1 c.withdraw.ensures in
     record {
-      follows = subst (λ (r : Result (ℕ × ℕ) Refusal). Follows (Does shares v (Switch w)) v room r c.withdraw.new.report (with_book (in_phase v c.in-Some.phase) m)) c.in-ok-answer.was
-          (switch_done shares v w c.in-Some.phase t.0 room c.withdraw.result c.withdraw.new.report m f c.in-ok-answer.answer c.in-ok-answer.was);
+      follows = subst (λ (r : Result (ℕ × ℕ) Refusal). Follows (Does shares v (Switch w)) v room r c.withdraw.new.report (with_book (in_phase v c.in-Some.phase) m)) c.in_ok-answer.was
+          (switch_done shares v w c.in-Some.phase t.0 room c.withdraw.result c.withdraw.new.report m f c.in_ok-answer.answer c.in_ok-answer.was);
       rule = refl;
     }

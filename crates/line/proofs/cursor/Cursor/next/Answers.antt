@@ -12,5 +12,5 @@ pub returns : goal.returns
 returns c =
     let line = c.args.self.now.line.now in
     let at = c.args.self.now.at in
-    let s = left_split line at c.solid-len-len.result (omega arith) (c.solid-len-len.ensures.value ∙ ap (prefix_len solid) (take_rest line at)) in
+    let s = left_split line at c.solid_len-len.result (omega arith) (c.solid_len-len.ensures.value ∙ ap (prefix_len solid) (take_rest line at)) in
     (ap none_left s, subst (λ f. Reads f c.read-field.result) (sym (ap first s)) (simp (take_rest, sub-zero) at c.read-field.ensures), refl, sym (ap others s), refl)

@@ -6,7 +6,7 @@ use Rattle.rules.proofs.price_time.PriceTimeAllocationRule.divide.Goals as goal
 
 pub loop-i-preserved : goal.loop-i-preserved
 loop-i-preserved c =
-    write_more (λ xs. price_time xs c.loop-i.left) (λ xs. price_time xs (c.loop-i.left - c.share-of-share.result)) c.args.quantities.now c.loop-i.out c.loop-i.i c.share-of-share.result (omega arith) (omega arith) (price_time_step _ _ _ _ c.share-of-share.ensures)
+    write_more (λ xs. price_time xs c.loop-i.left) (λ xs. price_time xs (c.loop-i.left - c.share_of-share.result)) c.args.quantities.now c.loop-i.out c.loop-i.i c.share_of-share.result (omega arith) (omega arith) (price_time_step _ _ _ _ c.share_of-share.ensures)
     ∙ c.loop-i.invariant
 
 pub returns : goal.returns
