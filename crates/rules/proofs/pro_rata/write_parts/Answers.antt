@@ -1,4 +1,4 @@
-use Rattle.std.proofs.Common.{◌≡◌, get_or, sym, refl, ◌∙◌, arith}
+use Rattle.std.proofs.Common.{get_or, sym, refl, ◌∙◌, arith}
 use Rattle.rules.specs.ProRata.{parts}
 use Rattle.rules.specs.ProRataLemmas.{part_le, parts_below, parts_more, parts_end}
 use Rattle.rules.specs.Writes.{write_more, write_end}

@@ -1,4 +1,4 @@
-use Rattle.std.proofs.Common.{◌≡◌, ◌-◌, sym, refl, ◌∙◌, arith}
+use Rattle.std.proofs.Common.{◌-◌, sym, refl, ◌∙◌, arith}
 use Rattle.rules.specs.PriceTime.{price_time}
 use Rattle.rules.specs.PriceTimeLemmas.{price_time_step}
 use Rattle.rules.specs.Writes.{write_more, write_end}
