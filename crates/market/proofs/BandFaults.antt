@@ -1,9 +1,9 @@
 -- What the verdict on bands says.
-use Rattle.std.proofs.Common.{◌≡◌, ℕ, suc, ◌+◌, Bool, true, false, cond, List, [], ◌∷◌, ◌++◌, length, Some, None, Option, sym, refl, ap, ◌∙◌, subst, arith}
+use Rattle.std.proofs.Common.{◌≡◌, ℕ, suc, ◌+◌, Bool, true, false, cond, List, [], ◌∷◌, length, Some, None, Option, refl, ap, ◌∙◌, arith}
 use Rattle.market.specs.declared.product.Band.{Band}
 use Rattle.market.specs.declared.refusal.Refusal.{Refusal}
 use Rattle.market.specs.declared.refusal.Refusal.TheVariants as refusal
-use Rattle.market.specs.Bands.{low_fits, high_fits, in_order, first_broken, build_fault, AllPass, FirstFailing, Broken, low, high, crossed, BandsJudged}
+use Rattle.market.specs.Bands.{low_fits, high_fits, in_order, first_broken, build_fault, AllPass, FirstFailing, low, high, crossed, BandsJudged}
 use Rattle.market.specs.Venues.{topmost}
 
 -- what one test finds

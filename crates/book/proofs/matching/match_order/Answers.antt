@@ -23,10 +23,10 @@ loop-left-init g c = (
   refl,
 )
 
-pub returns-in-default : goal.returns-in-default
-returns-in-default g c =
+pub returns-in_default : goal.returns-in_default
+returns-in_default g c =
     let o = c.args.taker.now in
-    let none : NoneWithin (lot_book o.lot) o.side o.price (vec_items c.loop-left.resting.orders) = subst (NoneWithin (lot_book o.lot) o.side o.price) c.as_slice.ensures.value c.in-default.ensures in
+    let none : NoneWithin (lot_book o.lot) o.side o.price (vec_items c.loop-left.resting.orders) = subst (NoneWithin (lot_book o.lot) o.side o.price) c.as_slice.ensures.value c.in_default.ensures in
     record {
       run = going_end _ _ _ _ _ c.loop-left.number c.loop-left.left (vec_items c.loop-left.resting.orders) c.loop-left.written c.loop-left.report c.loop-left.invariant.0 (no_more none);
       left = c.loop-left.invariant.5;

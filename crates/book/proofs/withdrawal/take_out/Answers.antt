@@ -27,21 +27,21 @@ loop-i-preserved c =
           let more = more_then c.args.written.now c.loop-i.written w.push.new.self c.args.report.now c.loop-i.report w.push.new.report (map cancel_row (filter out (take i os))) (w.cancel_row.result ∷ []) c.loop-i.invariant.2 w.push.ensures in
           let rows : map cancel_row (filter out (take i os)) ++ w.cancel_row.result ∷ [] ≡ map cancel_row (filter out (take (i + 1) os)) =
           ap (λ (r : Row). map cancel_row (filter out (take i os)) ++ r ∷ []) w.cancel_row.ensures ∙ sym (rows_yes out os i no_order lt yes) in (
-            w.count_is ∙ omega (arith, c.loop-i.invariant.0, ap length (kept_yes out os i no_order lt yes), length_push (filter out (take i os)) o),
+            w.count-is ∙ omega (arith, c.loop-i.invariant.0, ap length (kept_yes out os i no_order lt yes), length_push (filter out (take i os)) o),
             ap (λ (r : Resting). vec_items r.orders) w.draft-is ∙ c.loop-i.invariant.1 ∙ sym (kept_no stay os i no_order lt stays-not),
             rw (w.written-is, w.report-is) (subst (λ (rs : List Row). RowsMore c.args.written.now c.args.report.now rs w.push.new.self w.push.new.report) rows more),
             omega (arith, ap (λ (r : Resting). vec_len r.orders) w.draft-is, c.loop-i.invariant.3),
-            omega (arith, w.count_is, c.loop-i.invariant.4),
+            omega (arith, w.count-is, c.loop-i.invariant.4),
             ap (λ (r : Resting). vec_capacity r.orders) w.draft-is ∙ c.loop-i.invariant.5,
           )
       | else-leaves w ↦
           let no-match : out o ≡ false = sym w.if-leaves.ensures in
           let stays : stay o ≡ true = ap not no-match in (
-            w.count_is ∙ c.loop-i.invariant.0 ∙ sym (ap length (kept_no out os i no_order lt no-match)),
+            w.count-is ∙ c.loop-i.invariant.0 ∙ sym (ap length (kept_no out os i no_order lt no-match)),
             ap (λ (r : Resting). vec_items r.orders) w.draft-is ∙ w.push_reserved.ensures.items ∙ ap (λ (xs : List Order). xs ++ o ∷ []) c.loop-i.invariant.1 ∙ sym (kept_yes stay os i no_order lt stays),
             rw (w.written-is, w.report-is) (subst (λ (xs : List Order). RowsMore c.args.written.now c.args.report.now (map cancel_row xs) c.loop-i.written c.loop-i.report) (sym (kept_no out os i no_order lt no-match)) c.loop-i.invariant.2),
             omega (arith, ap (λ (r : Resting). vec_len r.orders) w.draft-is, w.push_reserved.ensures.len, c.loop-i.invariant.3),
-            omega (arith, w.count_is, c.loop-i.invariant.4),
+            omega (arith, w.count-is, c.loop-i.invariant.4),
             ap (λ (r : Resting). vec_capacity r.orders) w.draft-is ∙ w.push_reserved.ensures.capacity ∙ c.loop-i.invariant.5,
           )
     ]

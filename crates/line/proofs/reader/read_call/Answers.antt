@@ -64,8 +64,8 @@ returns-in-P c =
     let same = called line c.new-fields.result c.letter.new.self start _ c.in_ok-letter.ensures 80 _ c.in-P.is refl c.read_switch.ensures in
     record { value = same; judged = as_read call_form line _ same }
 
-pub returns-in-default : goal.returns-in-default
-returns-in-default c =
+pub returns-in_default : goal.returns-in_default
+returns-in_default c =
     let line = c.args.line.now in
     let bad : among c.in_ok-letter.field-0 call_letters ≡ false = grind (arith, nat_tests) in
     let start = begun line _ _ c.clean_len-sound.ensures.value c.if-sound-line.false c.new-fields.ensures in

@@ -16,8 +16,8 @@ bounds-shares-j c =
     (taking_here c.args.book c.args.side c.args.price c.args.fill.number c.args.fill.taker (vec_items c.loop-i.self.orders) c.args.shares.now c.loop-i.i c.loop-i.j c.index.result.now (omega arith)
     (sym (ap (in_level c.args.book c.args.side c.args.price) c.index.ensures) ∙ sym c.if-in_level.ensures) c.loop-i.invariant.0.below).0
 
-pub offset-bounds-shares-j : goal.offset-bounds-shares-j
-offset-bounds-shares-j c =
+pub offset_bounds-shares-j : goal.offset_bounds-shares-j
+offset_bounds-shares-j c =
     let h = (taking_here c.args.book c.args.side c.args.price c.args.fill.number c.args.fill.taker (vec_items c.loop-i.self.orders) c.args.shares.now c.loop-i.i c.loop-i.j c.index.result.now (omega arith)
     (sym (ap (in_level c.args.book c.args.side c.args.price) c.index.ensures) ∙ sym c.if-in_level.ensures) c.loop-i.invariant.0.below).0 in
     search rules

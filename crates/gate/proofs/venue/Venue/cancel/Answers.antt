@@ -19,6 +19,6 @@ returns g c =
     let shares = g.R.AllocationRule.shares c.args.self.now.rule in
     record {
       follows = lifted (Cancels v.book c.args.participant c.args.number) (Does shares v (Cancel c.args.participant c.args.number)) v (length c.args.report.now) c.cancel.result c.cancel.new.report (book_state c.cancel.new.self)
-          (λ e h. cancels c.args.participant c.args.number e (sym c.in-default.ensures) h) c.cancel.ensures;
+          (λ e h. cancels c.args.participant c.args.number e (sym c.in_default.ensures) h) c.cancel.ensures;
       rule = refl;
     }

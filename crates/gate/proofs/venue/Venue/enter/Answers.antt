@@ -23,6 +23,6 @@ returns g c =
     let shares = g.R.AllocationRule.shares c.args.self.now.rule in
     record {
       follows = lifted (Enters shares v.book a) (Does shares v (Enter a.participant a.instrument a.side a.quantity.0 a.price a.duration)) v (length c.args.report.now) c.enter.result c.enter.new.report (book_state c.enter.new.self)
-          (λ e h. enters a.participant a.instrument a.side a.quantity.0 a.price a.duration e (sym c.in-default.ensures) h) c.enter.ensures;
+          (λ e h. enters a.participant a.instrument a.side a.quantity.0 a.price a.duration e (sym c.in_default.ensures) h) c.enter.ensures;
       rule = refl;
     }

@@ -12,11 +12,11 @@ use Rattle.gate.specs.Views.{view}
 use Rattle.gate.proofs.Lifting.{with_book, refused_by, turned_from, turned_not, switch_refused, switch_done}
 use Rattle.gate.proofs.venue.Venue.switch.Goals as goal
 
-pub returns-in-default : goal.returns-in-default
-returns-in-default g c =
+pub returns-in_default : goal.returns-in_default
+returns-in_default g c =
     let v = view c.args.self.now in
     record {
-      follows = refused_by (g.R.AllocationRule.shares c.args.self.now.rule) v (length c.args.report.now) (Switch c.args.event) refusal.Phase c.refuse.result c.refuse.new.report (turned_not v.phase c.args.event (sym c.turned.ensures ∙ c.in-default.is)) c.refuse.ensures.answer c.refuse.ensures.blank;
+      follows = refused_by (g.R.AllocationRule.shares c.args.self.now.rule) v (length c.args.report.now) (Switch c.args.event) refusal.Phase c.refuse.result c.refuse.new.report (turned_not v.phase c.args.event (sym c.turned.ensures ∙ c.in_default.is)) c.refuse.ensures.answer c.refuse.ensures.blank;
       rule = refl;
     }
 
