@@ -43,7 +43,7 @@ or_else x (Some y) = y
 
 pub record RefusedFirst (line out out' : List ℕ) : Type 0 where
   pub e : Refusal
-  pub IfErr : build_refusal (build_line line) ≡ Some e
+  pub refused : build_refusal (build_line line) ≡ Some e
   pub written : out' ≡ out ++ answer_text (Err e)
 
 pub record BuiltFirst {R : Type 0} (shares : R → List ℕ → ℕ → List ℕ) (rule : R) (line out out' : List ℕ) (g : Gateway R) : Type 0 where
@@ -96,14 +96,14 @@ module _ (rules : Product → List ℕ → ℕ → List ℕ) where
   module _ (log : List Event → Type 0) (over : Type 0) (r : LineReader) where
     -- the build line is refused, and the refusal is written
     pub served_refused : (used line : List ℕ) (e : Refusal) → closed_lines used ≡ line ∷ [] → build_refusal (build_line line) ≡ Some e → Stands rules log r [] used (answer_text (Err e)) → Served rules log over
-    served_refused used line e first IfErr s =
+    served_refused used line e first refused s =
         let lines = closed_after (open_line used) (unread r) in
         let closed : line ∷ lines ≡ closed_lines (taken s.events) = sym (ap closed_lines s.cut ∙ closed_on [] used (unread r) ∙ ap (λ ls. ls ++ lines) first) in
         record {
           events = s.events;
           logged = s.logged;
-          replied = transport (λ i. Reply rules (closed i) ((s.buffered ∙ append-nil (given s.events)) i)) (not_built line lines e IfErr);
-          ends = subst (Ends over) closed (build_refused line lines e IfErr);
+          replied = transport (λ i. Reply rules (closed i) ((s.buffered ∙ append-nil (given s.events)) i)) (not_built line lines e refused);
+          ends = subst (Ends over) closed (build_refused line lines e refused);
           prompt = s.prompt;
         }
 

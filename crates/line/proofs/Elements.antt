@@ -53,8 +53,8 @@ module _ {X : Type 0} {one : Kind} {low size : ℕ} {s u : Cursor} {k : ℕ} (c 
   -- the misfit of the two runs is that of all
   pub misfit_of_runs : (three four : Kind) (o : Option ℕ) → misfit (run three (part size blank k) (run four (part size blank k) [])) (rest u) u.index ≡ o → misfit (one ∷ number_within low size ∷ two_runs (decimal (first (others (rest s)))) three four) (rest s) s.index ≡ o
   misfit_of_runs three four o h =
-      let l = part_length size blank k c.within ∙ c.count-is in
-      rw (c.one-fits, c.count_fits, ← l, ← c.left, ← c.place) h
+      let l = part_length size blank k c.within ∙ c.count_is in
+      rw (c.one_fits, c.count_fits, ← l, ← c.left, ← c.place) h
 
   -- the two runs are read, and no field is left
   pub no_misfit : (three four : Kind) (w : Cursor) → Passed (λ ks. run three (part size blank k) (run four (part size blank k) ks)) u w → none_left (rest w) ≡ true → misfit (one ∷ number_within low size ∷ two_runs (decimal (first (others (rest s)))) three four) (rest s) s.index ≡ None
@@ -66,4 +66,4 @@ module _ {X : Type 0} {one : Kind} {low size : ℕ} {s u : Cursor} {k : ℕ} (c 
       let b = part_is size blank k c.within in
       let l = part_length size blank k c.within in
       (λ j. (e ∙ (λ i. each g (each f (b i) (rest u)) (drop (l i) (rest u)))) j ++ last_part size blank k j)
-      ∙ (λ j. from_runs size blank f g (c.count-is j) (c.left j))
+      ∙ (λ j. from_runs size blank f g (c.count_is j) (c.left j))

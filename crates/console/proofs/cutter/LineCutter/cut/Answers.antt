@@ -4,8 +4,8 @@ use Rattle.console.specs.Cuts.{start, kept}
 use Rattle.console.proofs.Newlines.{before_le, part_before, less_found, used_is}
 use Rattle.console.proofs.cutter.LineCutter.cut.Goals as goal
 
-pub slice-bounds-keep-end : goal.slice-bounds-keep-end
-slice-bounds-keep-end c = omega (arith, before_le c.args.block.now)
+pub slice_bounds-keep-end : goal.slice_bounds-keep-end
+slice_bounds-keep-end c = omega (arith, before_le c.args.block.now)
 
 pub past-requires : goal.past-requires
 past-requires c = omega (arith, before_le c.args.block.now)

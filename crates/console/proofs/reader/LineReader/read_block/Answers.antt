@@ -19,6 +19,7 @@ returns g c =
       ended = λ e.
           let none : 0 ≡ n = omega (arith, ltb-false _ _ e) in
           record { ended = read.ended (sym none) (omega (arith, long, c.args.self.now.room)); nothing = some ∙ ap (λ k. take k block) (sym none); empty = refl };
+      left = refl;
       some = λ e. omega (arith, ltb-true _ _ e);
       failed = tt;
     }
@@ -29,6 +30,7 @@ returns-in_err-n g c =
     record {
       keeps = IfOk-from_err c.from_residual.result _ err;
       ended = IfOk-from_err c.from_residual.result _ err;
+      left = IfOk-from_err c.from_residual.result _ err;
       some = IfOk-from_err c.from_residual.result _ err;
       failed = refused_any c.from_residual.result _ (λ rules used text ready s. broken_off used text (closed_lines used) [] (sym (append-nil (closed_lines used))) ready.reply s (g.W.Wire.log c.read.new.self) (c.in_err-n.ensures.failed s.events s.logged));
     }
