@@ -2,7 +2,7 @@
 ghost use Rattle.std.specs.Prelude.{◌≡◌, ◌≤◌, take, vec_len};
 ghost use Rattle.console.specs.Wires.{taken, given};
 
-use console::serving::serve;
+use console::serving::serve_wire;
 use console::wire::Wire;
 use std::test::Fail;
 
@@ -44,7 +44,7 @@ fn session_in_memory(rt: HostRuntime) -> Result<(), Fail> {
         at: 0,
         output: Vec::new(rt.alloc()),
     };
-    serve(rt.alloc(), &mut wire)?;
+    serve_wire(rt.alloc(), &mut wire)?;
     assert_eq!(rt;
         wire.output.as_slice(),
         b"ok 1 0\nok 0 0\nok 1 0\nok 2 3\nT 1 1 3 12 2 1\nno 2 1 0\nok 1 2\nX 0 1 2 0 0 1\n"

@@ -12,7 +12,7 @@ ghost use Rattle.console.specs.Serving.{options_named, Suits, RepliesOn, AllAnsw
 use crate::answering::{answer_line, open_venue};
 use crate::reader::LineReader;
 use crate::reader::calls::flush;
-use crate::wire::Wire;
+use crate::wire::{StandardWire, Wire};
 use anyhow::anyhow;
 use line::gateway::Gateway;
 use line::product_named;
@@ -29,8 +29,13 @@ const ROWS: usize = 1024;
 // How many bytes are written at once.
 const BLOCK: usize = 65_536;
 
-// Serves one session: the first line builds the venue, futures under price/time and options under pro rata.
-pub fn serve<W: Wire>(heap: Global, wire: &mut W) -> anyhow::Result<()>
+// Serves one session from standard input to standard output.
+pub fn serve(rt: &HostRuntime) -> anyhow::Result<()> {
+    serve_wire(rt.alloc(), &mut StandardWire::new(rt))
+}
+
+// Serves one session over any wire: the first line builds the venue, futures under price/time and options under pro rata.
+pub fn serve_wire<W: Wire>(heap: Global, wire: &mut W) -> anyhow::Result<()>
     ensures served { OnOk result (W.Wire.log wire.old [] → Served rule_for (W.Wire.log wire.new) (W.Wire.over wire.new)) }
     ensures failed { OnErr result (W.Wire.log wire.old [] → BrokenOff rule_for (W.Wire.log wire.new)) }
 {

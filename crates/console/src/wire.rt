@@ -24,19 +24,31 @@ pub trait Wire {
         ensures failed { OnErr result ((events : List Event) → log self.old events → PartGiven (log self.new) text.now events) };
 }
 
-// Standard input and standard output. What the system read and wrote is known to no contract, so that its log says nothing.
-impl Wire for HostRuntime {
+// Standard input and standard output.
+#[derive(Drop)]
+pub struct StandardWire<'a> {
+    rt: &'a HostRuntime,
+}
+
+impl<'a> StandardWire<'a> {
+    pub fn new(rt: &'a HostRuntime) -> StandardWire<'a> {
+        StandardWire { rt }
+    }
+}
+
+// What the system read and wrote is known to no contract, so that the log says nothing.
+impl Wire for StandardWire<'_> {
     ghost log = { λ _ _. Unit {0} };
 
     ghost over = { λ _. Unit {0} };
 
     fn read(&mut self, block: &mut [u8]) -> anyhow::Result<usize> {
-        let n = self.stdin().read(block)?;
+        let n = self.rt.stdin().read(block)?;
         Ok(n)
     }
 
     fn write(&mut self, text: &[u8]) -> anyhow::Result<()> {
-        self.stdout().write_all(text)?;
+        self.rt.stdout().write_all(text)?;
         Ok(())
     }
 }

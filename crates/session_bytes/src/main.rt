@@ -3,7 +3,6 @@
 
 use console::serving::serve;
 
-fn main(mut rt: HostRuntime) -> anyhow::Result<()> {
-    let served = serve(rt.alloc(), &mut rt);
-    served
+fn main(rt: HostRuntime) -> anyhow::Result<()> {
+    serve(&rt)
 }

@@ -6,7 +6,7 @@ use Rattle.console.specs.Cuts.{start, kept}
 use Rattle.console.specs.Sessions.{rule_for}
 use Rattle.console.proofs.Breaking.{refused_any, broken_first}
 use Rattle.console.proofs.Serves.{served_none, broken_at_first, first_line, served_from, broken_from, suits_chosen}
-use Rattle.console.proofs.serving.serve.Goals as goal
+use Rattle.console.proofs.serving.serve_wire.Goals as goal
 
 pub returns-in_err-reader : goal.returns-in_err-reader
 returns-in_err-reader g c =

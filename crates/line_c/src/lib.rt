@@ -1,0 +1,14 @@
+// The check of a line, exported to programs in C.
+#![tactic(auto)]
+
+ghost use Rattle.std.specs.Prelude.{◌≡◌, is_ok, ◌==◌};
+ghost use Rattle.line.specs.Verdicts.{line_call, check_code};
+
+// 0 for a call, and else the refusal's number times 10,000 and its place.
+#[unsafe(no_mangle)]
+pub extern "C" fn line_check(line: &[u8]) -> u32
+    ensures value { result ≡ check_code (line_call line.now) }
+    ensures accepts { (result == 0) ≡ is_ok (line_call line.now) }
+{
+    line::line_check(line)
+}
