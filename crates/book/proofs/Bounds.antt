@@ -3,7 +3,7 @@ use Rattle.std.proofs.Common.{◌≡◌, ℕ, ◌<◌, Bool, true, false, cond, 
 use Rattle.std.proofs.ByRecursion.{kept_by_passes, All-weaker}
 use Rattle.std.proofs.lemmas.Int.{ints}
 use Rattle.std.proofs.lemmas.Bool.{ltb-true, both_ways}
-use Rattle.std.specs.List.{AllByRecursion as All}
+use Rattle.std.specs.List.{AllByRecursion}
 use Rattle.rules.specs.Domain.{Domain, total}
 use Rattle.market.specs.declared.book_id.BookId.{BookId}
 use Rattle.market.specs.declared.order.Order.{Order}
@@ -46,7 +46,7 @@ good_through : (s : Side) (p q r : Price) → good s p q ≡ true → good s p r
 good_through Buy p q r h k = grind (arith, ints)
 good_through Sell p q r h k = grind (arith, ints)
 
-pub nobody_within : (b : BookId) (s : Side) (limit : Price) (os : List Order) → All (λ o. stands b (opposite s) o ≡ false) os → NoneWithin b s limit os
+pub nobody_within : (b : BookId) (s : Side) (limit : Price) (os : List Order) → AllByRecursion (λ o. stands b (opposite s) o ≡ false) os → NoneWithin b s limit os
 nobody_within b s limit os h = All-weaker (λ o. stands b (opposite s) o ≡ false) (λ o. stands b (opposite s) o ≡ true → good s o.price limit ≡ false) (λ o n y. absurd (both_ways (stands b (opposite s) o) n y)) os h
 
 pub best_beyond : (b : BookId) (s : Side) (limit p : Price) (os : List Order) → Best b s os p → good s p limit ≡ false → NoneWithin b s limit os

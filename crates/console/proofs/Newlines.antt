@@ -3,7 +3,7 @@ use Rattle.std.proofs.Common.{◌≡◌, ℕ, zero, suc, ◌+◌, ◌-◌, ◌<�
 use Rattle.std.proofs.lemmas.List.{append_assoc, append-nil, take_all, take_more, at_drop_more, at_drop_all}
 use Rattle.std.proofs.lemmas.Bool.{cases_lt}
 use Rattle.std.proofs.lemmas.Bool.Decides.{nat_tests}
-use Rattle.std.specs.List.{flat_map, AllByRecursion as All}
+use Rattle.std.specs.List.{flat_map, AllByRecursion}
 use Rattle.console.specs.Lines.{closed_after, open_after, closed_lines, open_line, has_newline, before_newline, Parted}
 
 -- ---- fronts
@@ -125,11 +125,11 @@ plain_push (x ∷ xs) b h e = let f = plain_push xs b in grind (arith, nat_tests
 abbrev Plain : List ℕ → Type 0
 Plain l = has_newline l ≡ false
 
-lines_plain_after : (part xs : List ℕ) → Plain part → All Plain (closed_after part xs)
+lines_plain_after : (part xs : List ℕ) → Plain part → AllByRecursion Plain (closed_after part xs)
 lines_plain_after part [] h = tt
 lines_plain_after part (b ∷ xs) h = byte (eqb b 10) refl (lines_plain_after [] xs refl) (λ e. lines_plain_after (part ++ (b ∷ [])) xs (plain_push part b h e))
   where
-    byte : (t : Bool) → eqb b 10 ≡ t → All Plain (closed_after [] xs) → (eqb b 10 ≡ false → All Plain (closed_after (part ++ (b ∷ [])) xs)) → All Plain (cond t (part ∷ closed_after [] xs) (closed_after (part ++ (b ∷ [])) xs))
+    byte : (t : Bool) → eqb b 10 ≡ t → AllByRecursion Plain (closed_after [] xs) → (eqb b 10 ≡ false → AllByRecursion Plain (closed_after (part ++ (b ∷ [])) xs)) → AllByRecursion Plain (cond t (part ∷ closed_after [] xs) (closed_after (part ++ (b ∷ [])) xs))
     byte true e here there = (h, here)
     byte false e here there = there e
 

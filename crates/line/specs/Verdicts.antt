@@ -1,6 +1,6 @@
 -- What a line is: a call or a build line, or a refusal with its place.
 use Rattle.std.specs.Prelude.{◌≡◌, ℕ, ◌+◌, ◌*◌, ◌<◌, ◌≤◌, Bool, true, false, cond, List, ◌∷◌, length, Some, None, Ok, Err, Option, Result, ◌==◌, nat_lt, slice_index}
-use Rattle.std.specs.List.{flat_map, AllByRecursion as All, slice_get}
+use Rattle.std.specs.List.{flat_map, AllByRecursion, slice_get}
 use Rattle.market.specs.Refusals.{refusal_code}
 use Rattle.market.specs.declared.call.Call.{Call}
 use Rattle.market.specs.declared.product.Product.{Product}
@@ -49,7 +49,7 @@ pub record BadByte (line : List ℕ) (p : ℕ) : Type 0 where
 -- each behind a space, the fields are the line behind a space, and no field has a space in it
 pub record Parted (line : List ℕ) (fields : List (List ℕ)) : Type 0 where
   pub whole : flat_map (λ f. letter " " ∷ f) fields ≡ letter " " ∷ line
-  pub plain : All (All (λ b. (b == (letter " ")) ≡ false)) fields
+  pub plain : AllByRecursion (AllByRecursion (λ b. (b == (letter " ")) ≡ false)) fields
 
 -- a kind and a field at one place: both there and fitting, or neither there
 abbrev pub agree : Option Kind → Option (List ℕ) → Bool

@@ -1,6 +1,6 @@
 -- A fill asks the rule within its domain, so its shares keep the laws.
 use Rattle.std.proofs.Common.{◌≡◌, ℕ, zero, suc, ◌-◌, ◌≤◌, Bool, true, false, cond, List, [], ◌∷◌, length, get_or, sym, subst, inl, inr, arith}
-use Rattle.std.specs.List.{AllByRecursion as All}
+use Rattle.std.specs.List.{AllByRecursion}
 use Rattle.std.proofs.ByRecursion.{all_kept_by}
 use Rattle.std.proofs.lemmas.List.{length-map}
 use Rattle.std.proofs.lemmas.Int.{ints}
@@ -21,7 +21,7 @@ use Rattle.market.proofs.Sizes.{quantity_sized, Lasting}
 
 -- a book that the rules are made for: at most 256 orders of at most 10,000 each
 pub record Bounded (os : List Order) : Type 0 where
-  pub small : All (λ o. quantity_of o ≤ 10000) os
+  pub small : AllByRecursion (λ o. quantity_of o ≤ 10000) os
   pub few : length os ≤ 256
 
 pub small_lasts : Lasting (λ o. quantity_of o ≤ 10000)
@@ -48,7 +48,7 @@ level_some b s p (o ∷ os) (inr h) =
     let more = level_some b s p os h in
     elim (in_level b s p o) as (λ t. 1 ≤ length (cond t (o ∷ level b s p os) (level b s p os))) [ true ↦ omega arith | false ↦ more ]
 
-quantity_small : (os : List Order) → All (λ o. quantity_of o ≤ 10000) os → (k : ℕ) → get_or (quantities os) k 0 ≤ 10000
+quantity_small : (os : List Order) → AllByRecursion (λ o. quantity_of o ≤ 10000) os → (k : ℕ) → get_or (quantities os) k 0 ≤ 10000
 quantity_small [] a k = omega arith
 quantity_small (o ∷ os) a zero = a.0
 quantity_small (o ∷ os) a (suc k) = quantity_small os a.1 k

@@ -1,6 +1,6 @@
 -- Cancellations: what is taken out of the book is what the rows say.
 use Rattle.std.proofs.Common.{◌≡◌, ℕ, ◌+◌, ◌<◌, ◌≤◌, Bool, true, false, cond, not, eqb, List, [], ◌∷◌, ◌++◌, map, length, filter, refl, ap, subst, arith}
-use Rattle.std.specs.List.{AllByRecursion as All}
+use Rattle.std.specs.List.{AllByRecursion}
 use Rattle.std.proofs.ByRecursion.{All-append, all_kept_by}
 use Rattle.std.proofs.lemmas.List.{length-append}
 use Rattle.market.specs.declared.order.Order.{Order}
@@ -40,23 +40,23 @@ cancel_below m o h = (cancel_side o.side m o.number h, cancel_side (opposite o.s
 
 -- ---- one order
 
-all_split : (P : Order → Type 0) (xs ys : List Order) → All P (xs ++ ys) → All P xs × All P ys
+all_split : (P : Order → Type 0) (xs ys : List Order) → AllByRecursion P (xs ++ ys) → AllByRecursion P xs × AllByRecursion P ys
 all_split P [] ys a = (tt, a)
 all_split P (x ∷ xs) ys a = let r = all_split P xs ys a.1 in ((a.0, r.0), r.1)
 
-all_without : (P : Order → Type 0) (xs : List Order) (o : Order) (ys : List Order) → All P (xs ++ o ∷ ys) → All P (xs ++ ys)
+all_without : (P : Order → Type 0) (xs : List Order) (o : Order) (ys : List Order) → AllByRecursion P (xs ++ o ∷ ys) → AllByRecursion P (xs ++ ys)
 all_without P xs o ys a = let r = all_split P xs (o ∷ ys) a in All-append P xs ys r.0 r.1.1
 
 pub cancels_keep : (m : BookState) (participant number : ℕ) (e : Ending BookState) → Orderly m → Cancels m participant number e → Ended m (λ n. []) e
 cancels_keep m participant number _ s (taken_out before o behind is others mine) =
-    let used : All (Used m.next) (before ++ o ∷ behind) = subst (All (Used m.next)) is s.used in
+    let used : AllByRecursion (Used m.next) (before ++ o ∷ behind) = subst (AllByRecursion (Used m.next)) is s.used in
     let own : o.number < m.next = (all_split (Used m.next) before (o ∷ behind) used).1.0.1 in
     let longer : length m.orders ≡ length (before ++ o ∷ behind) = ap length is in
     record {
       gives = none;
       balance = λ n h. omega (arith, ap (resting n) is, resting-++ n before (o ∷ behind), resting-++ n before behind, cancel_gone n h o []);
       below = (cancel_below m.next o own, tt);
-      orderly = orderly_thins m (before ++ behind) m.next s (λ P lasts a. all_without P before o behind (subst (All P) is a))
+      orderly = orderly_thins m (before ++ behind) m.next s (λ P lasts a. all_without P before o behind (subst (AllByRecursion P) is a))
           (omega (arith, length-append before (o ∷ behind), length-append before behind)) (omega arith);
     }
 
@@ -72,7 +72,7 @@ withdrawn_balance n h test (o ∷ os) =
       | false ↦ omega arith
     ]
 
-cancelled_below : (m : ℕ) (os : List Order) → All (λ o. o.number < m) os → All (NumbersBelow m) (map cancel_row os)
+cancelled_below : (m : ℕ) (os : List Order) → AllByRecursion (λ o. o.number < m) os → AllByRecursion (NumbersBelow m) (map cancel_row os)
 cancelled_below m [] a = tt
 cancelled_below m (o ∷ os) a = (cancel_below m o a.0, cancelled_below m os a.1)
 

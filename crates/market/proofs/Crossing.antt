@@ -1,6 +1,6 @@
 -- No resting buy meets a resting sell: what goes, and what rests after its match, leaves it so.
 use Rattle.std.proofs.Common.{◌≡◌, ◌-◌, true, false, List, [], ◌∷◌, ◌++◌, sym, refl, ap, ◌∙◌, subst, arith}
-use Rattle.std.specs.List.{AllByRecursion as All}
+use Rattle.std.specs.List.{AllByRecursion}
 use Rattle.std.proofs.lemmas.Int.{ints}
 use Rattle.std.proofs.lemmas.Bool.{true≢false, eq-eqb, and_from}
 use Rattle.std.proofs.ByRecursion.{All-append, All-weaker}
@@ -16,16 +16,16 @@ use Rattle.market.specs.Sessions.{Apart}
 use Rattle.market.proofs.Sizes.{book_sized, Lasting}
 
 abbrev pub Uncrossed : List Order → Type 0
-Uncrossed os = All (λ x. All (λ y. Apart x y) os) os
+Uncrossed os = AllByRecursion (λ x. AllByRecursion (λ y. Apart x y) os) os
 
 -- each order of os' is one of os, but for its quantity
 abbrev pub Thins : List Order → List Order → Type 1
-Thins os os' = (P : Order → Type 0) → Lasting P → All P os → All P os'
+Thins os os' = (P : Order → Type 0) → Lasting P → AllByRecursion P os → AllByRecursion P os'
 
 pub uncrossed_thins : (os os' : List Order) → Thins os os' → Uncrossed os → Uncrossed os'
 uncrossed_thins os os' thins u =
-    thins (λ x. All (λ y. Apart x y) os') (λ x k a. All-weaker (λ y. Apart x y) (λ y. Apart (less x k) y) (λ y h e b s. h (sym (book_sized x (quantity_of x - k)) ∙ e) b s) os' a)
-    (All-weaker (λ x. All (λ y. Apart x y) os) (λ x. All (λ y. Apart x y) os')
+    thins (λ x. AllByRecursion (λ y. Apart x y) os') (λ x k a. All-weaker (λ y. Apart x y) (λ y. Apart (less x k) y) (λ y h e b s. h (sym (book_sized x (quantity_of x - k)) ∙ e) b s) os' a)
+    (All-weaker (λ x. AllByRecursion (λ y. Apart x y) os) (λ x. AllByRecursion (λ y. Apart x y) os')
     (λ x a. thins (λ y. Apart x y) (λ y k h e b s. h (e ∙ book_sized y (quantity_of y - k)) b s) a) os u)
 
 same_book_refl : (b : BookId) → same_book b b ≡ true
@@ -61,12 +61,12 @@ clear_sell o y h w b s =
 apart_self : (o : Order) → Apart o o
 apart_self o w b s = absurd (true≢false (ap (λ t. same_side t Buy) (sym b ∙ s)))
 
-apart_last : (o : Order) (os xs : List Order) → All (λ x. All (λ y. Apart x y) os) xs → All (Clear o) xs → All (λ x. All (λ y. Apart x y) (os ++ o ∷ [])) xs
+apart_last : (o : Order) (os xs : List Order) → AllByRecursion (λ x. AllByRecursion (λ y. Apart x y) os) xs → AllByRecursion (Clear o) xs → AllByRecursion (λ x. AllByRecursion (λ y. Apart x y) (os ++ o ∷ [])) xs
 apart_last o os [] a c = tt
 apart_last o os (x ∷ xs) a c = (All-append (Apart x) os (o ∷ []) a.0 (clear_sell o x c.0, tt), apart_last o os xs a.1 c.1)
 
 -- one more order, with none to trade with
 pub uncrossed_last : (o : Order) (os : List Order) → Uncrossed os → NoneWithin (lot_book o.lot) o.side o.price os → Uncrossed (os ++ o ∷ [])
 uncrossed_last o os u c =
-    All-append (λ x. All (λ y. Apart x y) (os ++ o ∷ [])) os (o ∷ []) (apart_last o os os u c)
+    All-append (λ x. AllByRecursion (λ y. Apart x y) (os ++ o ∷ [])) os (o ∷ []) (apart_last o os os u c)
     (All-append (Apart o) os (o ∷ []) (All-weaker (Clear o) (Apart o) (λ y h. clear_buy o y h) os c) (apart_self o, tt), tt)

@@ -1,6 +1,6 @@
 -- A call has one ending.
 use Rattle.std.proofs.Common.{◌≡◌, ℕ, ◌<◌, ◌≤◌, Bool, true, false, cond, eqb, ltb, List, [], ◌∷◌, ◌++◌, length, Some, None, Option, Result, sym, refl, ap, ◌∙◌, subst, ap₂, arith}
-use Rattle.std.specs.List.{AllByRecursion as All}
+use Rattle.std.specs.List.{AllByRecursion}
 use Rattle.std.proofs.lemmas.Bool.{both_ways, lt-ltb, le-ltb, ne_eqb}
 use Rattle.market.specs.declared.acceptance.Acceptance.TheVariants.{Cancelled}
 use Rattle.market.specs.declared.arrival.Arrival.{Arrival}
@@ -73,7 +73,7 @@ module _ (shares : List ℕ → ℕ → List ℕ) (m : BookState) (a : Arrival) 
 -- ---- cancel
 
 first_unique : (test : Order → Bool) (xs : List Order) (o : Order) (ys xs' : List Order) (o' : Order) (ys' : List Order) → xs ++ o ∷ ys ≡ xs' ++ o' ∷ ys' →
-    All (λ x. test x ≡ false) xs → All (λ x. test x ≡ false) xs' → test o ≡ true → test o' ≡ true → (o ≡ o') × (xs ++ ys ≡ xs' ++ ys')
+    AllByRecursion (λ x. test x ≡ false) xs → AllByRecursion (λ x. test x ≡ false) xs' → test o ≡ true → test o' ≡ true → (o ≡ o') × (xs ++ ys ≡ xs' ++ ys')
 first_unique test [] o ys [] o' ys' e a a' h h' = (cc, cc)
 first_unique test [] o ys (x ∷ xs') o' ys' e a a' h h' = let is : o ≡ x = cc in absurd (both_ways (test x) a'.0 (subst (λ z. test z ≡ true) is h))
 first_unique test (x ∷ xs) o ys [] o' ys' e a a' h h' = let is : x ≡ o' = cc in absurd (both_ways (test o') (subst (λ z. test z ≡ false) is a.0) h')

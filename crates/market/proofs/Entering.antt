@@ -1,6 +1,6 @@
 -- An order that arrives: what it has is what it trades, what is cancelled of it and what rests.
 use Rattle.std.proofs.Common.{◌≡◌, ℕ, ◌+◌, ◌<◌, ◌≤◌, Bool, true, false, cond, eqb, List, [], ◌∷◌, sym, refl, ap, inl, inr, arith}
-use Rattle.std.specs.List.{AllByRecursion as All}
+use Rattle.std.specs.List.{AllByRecursion}
 use Rattle.std.proofs.ByRecursion.{All-push, All-weaker}
 use Rattle.std.proofs.lemmas.List.{length_push}
 use Rattle.std.proofs.lemmas.Bool.{cases_eq}
@@ -41,7 +41,7 @@ module _ (shares : List ℕ → ℕ → List ℕ) (laws : Laws shares) (m : Book
   thinner {os = os} match = orderly_thins m os (m.next + 1) s (λ P lasts a'. match_all shares (arriving a m.next) P lasts match a') (match_length shares (arriving a m.next) match) (omega arith)
 
   rows_below : {q : ℕ} {rows : List Row} {f q' : ℕ} {os : List Order} → Match shares (arriving a m.next) 1 q m.orders rows f q' os →
-      All (NumbersBelow (m.next + 1)) rows
+      AllByRecursion (NumbersBelow (m.next + 1)) rows
   rows_below match = match_below shares (arriving a m.next) (m.next + 1) (omega arith) match
       (All-weaker (λ o. o.number < m.next) (λ o. o.number < m.next + 1) (λ o h. omega arith) m.orders (numbers_below m s))
 

@@ -1,6 +1,6 @@
 -- One fill: what its rows say, and what it leaves of the book.
 use Rattle.std.proofs.Common.{◌≡◌, ℕ, zero, suc, ◌+◌, ◌-◌, ◌<◌, ◌≤◌, Bool, true, false, cond, ◌&&◌, ◌||◌, eqb, List, [], ◌∷◌, length, get_or, filter, refl, ap, ◌∙◌, arith}
-use Rattle.std.specs.List.{AllByRecursion as All}
+use Rattle.std.specs.List.{AllByRecursion}
 use Rattle.std.proofs.lemmas.Bool.Decides.{nat_tests}
 use Rattle.std.proofs.ByRecursion.{All-append, all_kept_by}
 use Rattle.std.proofs.lemmas.List.Sums.{length-filter, count_by-le-length}
@@ -101,15 +101,15 @@ resting_open n (o ∷ os) = step (still_open o) refl (resting_open n os)
 
 -- ---- what a fill keeps
 
-all_reduced : (P : Order → Type 0) → Lasting P → (test : Order → Bool) (os : List Order) (ks : List ℕ) → All P os → All P (reduced test os ks)
+all_reduced : (P : Order → Type 0) → Lasting P → (test : Order → Bool) (os : List Order) (ks : List ℕ) → AllByRecursion P os → AllByRecursion P (reduced test os ks)
 all_reduced P lasts test [] ks a = tt
 all_reduced P lasts test (o ∷ os) ks a =
-    elim (test o) as (λ b. All P (cond b (less o (first ks) ∷ reduced test os (rest ks)) (o ∷ reduced test os ks))) [
+    elim (test o) as (λ b. AllByRecursion P (cond b (less o (first ks) ∷ reduced test os (rest ks)) (o ∷ reduced test os ks))) [
       | true ↦ (lasts o (first ks) a.0, all_reduced P lasts test os (rest ks) a.1)
       | false ↦ (a.0, all_reduced P lasts test os ks a.1)
     ]
 
-pub all_after_fill : (P : Order → Type 0) → Lasting P → (test : Order → Bool) (os : List Order) (ks : List ℕ) → All P os → All P (after_fill test os ks)
+pub all_after_fill : (P : Order → Type 0) → Lasting P → (test : Order → Bool) (os : List Order) (ks : List ℕ) → AllByRecursion P os → AllByRecursion P (after_fill test os ks)
 all_after_fill P lasts test os ks a = all_kept_by still_open P (reduced test os ks) (all_reduced P lasts test os ks a)
 
 pub length-kept_le : {X : Type 0} (test : X → Bool) (xs : List X) → length (filter test xs) ≤ length xs
@@ -131,11 +131,11 @@ trade_below : (s : Side) (m a t : ℕ) → a < m → t < m → buyer_of s a t < 
 trade_below Buy m a t h k = h
 trade_below Sell m a t h k = k
 
-pub fill_below : (f t m : ℕ) → t < m → (os : List Order) (ks : List ℕ) → All (λ o. o.number < m) os → All (NumbersBelow m) (fill_rows f t os ks)
+pub fill_below : (f t m : ℕ) → t < m → (os : List Order) (ks : List ℕ) → AllByRecursion (λ o. o.number < m) os → AllByRecursion (NumbersBelow m) (fill_rows f t os ks)
 fill_below f t m h [] ks a = tt
 fill_below f t m h (o ∷ os) ks a =
     All-append (NumbersBelow m) (some_row (first ks) (trade_row f t o (first ks))) (fill_rows f t os (rest ks))
-    (elim (eqb (first ks) 0) as (λ b. All (NumbersBelow m) (cond b [] (trade_row f t o (first ks) ∷ []))) [
+    (elim (eqb (first ks) 0) as (λ b. AllByRecursion (NumbersBelow m) (cond b [] (trade_row f t o (first ks) ∷ []))) [
       | true ↦ tt
       | false ↦ ((trade_below o.side m o.number t a.0 h, trade_below (opposite o.side) m o.number t a.0 h), tt)
     ])

@@ -1,6 +1,6 @@
 -- What holds of a book between calls, and what each call keeps.
 use Rattle.std.proofs.Common.{◌≡◌, ℕ, ◌+◌, ◌<◌, ◌≤◌, cond, eqb, ◌⊎◌, List, [], ◌∷◌, ◌++◌, length, sym, refl, inl, inr, arith}
-use Rattle.std.specs.List.{AllByRecursion as All}
+use Rattle.std.specs.List.{AllByRecursion}
 use Rattle.std.proofs.ByRecursion.{All-append, All-weaker}
 use Rattle.std.proofs.lemmas.Bool.{cases_lt}
 use Rattle.std.proofs.lemmas.Bool.Decides.{nat_tests}
@@ -21,11 +21,11 @@ Used n o = (1 ≤ o.number) × (o.number < n)
 
 pub record Orderly (m : BookState) : Type 0 where
   pub started : 1 ≤ m.next
-  pub used : All (Used m.next) m.orders
+  pub used : AllByRecursion (Used m.next) m.orders
   pub bounded : Bounded m.orders
   pub uncrossed : Uncrossed m.orders
 
-pub numbers_below : (m : BookState) → Orderly m → All (λ o. o.number < m.next) m.orders
+pub numbers_below : (m : BookState) → Orderly m → AllByRecursion (λ o. o.number < m.next) m.orders
 numbers_below m k = All-weaker (Used m.next) (λ o. o.number < m.next) (λ o h. h.1) m.orders k.used
 
 -- fewer orders, or less of them, are as orderly
@@ -80,7 +80,7 @@ gives_newest {next} n (one q) h = elim (cases_lt n next) [
 pub record Keeps (m : BookState) (rows : List Row) (new : List Entry) (m' : BookState) : Type 0 where
   pub gives : Gives m.next new m'.next
   pub balance : (n : ℕ) → 1 ≤ n → resting n m.orders + arrived n new ≡ gone n rows + resting n m'.orders
-  pub below : All (NumbersBelow m'.next) rows
+  pub below : AllByRecursion (NumbersBelow m'.next) rows
   pub orderly : Orderly m'
 
 -- a call that does nothing

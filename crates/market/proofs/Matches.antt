@@ -1,6 +1,6 @@
 -- Along a match nothing is lost, and what stands in the book stays what it was.
 use Rattle.std.proofs.Common.{◌≡◌, ℕ, ◌+◌, ◌<◌, ◌≤◌, Bool, List, length, refl, arith}
-use Rattle.std.specs.List.{AllByRecursion as All}
+use Rattle.std.specs.List.{AllByRecursion}
 use Rattle.std.proofs.ByRecursion.{All-append, all_kept_by}
 use Rattle.rules.specs.Domain.{Laws}
 use Rattle.market.specs.declared.order.Order.{Order}
@@ -22,7 +22,7 @@ abbrev faced : Order → Price → Order → Bool
 faced o p = in_level (lot_book o.lot) (opposite o.side) p
 
 module _ (shares : List ℕ → ℕ → List ℕ) (o : Order) where
-  pub match_all : (P : Order → Type 0) → Lasting P → {f q f' q' : ℕ} {os os' : List Order} {rows : List Row} → Match shares o f q os rows f' q' os' → All P os → All P os'
+  pub match_all : (P : Order → Type 0) → Lasting P → {f q f' q' : ℕ} {os os' : List Order} {rows : List Row} → Match shares o f q os rows f' q' os' → AllByRecursion P os → AllByRecursion P os'
   match_all P lasts filled a = a
   match_all P lasts (no_more h) a = a
   match_all P lasts {q = q} {os = os} (fill p pq best g m) a = match_all P lasts m (all_after_fill P lasts (faced o p) os (divided shares o p os q) a)
@@ -34,7 +34,7 @@ module _ (shares : List ℕ → ℕ → List ℕ) (o : Order) where
 
   -- the rows name the order and those that it met
   pub match_below : (n : ℕ) → o.number < n → {f q f' q' : ℕ} {os os' : List Order} {rows : List Row} → Match shares o f q os rows f' q' os' →
-      All (λ x. x.number < n) os → All (NumbersBelow n) rows
+      AllByRecursion (λ x. x.number < n) os → AllByRecursion (NumbersBelow n) rows
   match_below n h filled a = tt
   match_below n h (no_more k) a = tt
   match_below n h {f} {q} {os = os} (fill {rows = rows} p pq best g m) a =

@@ -1,6 +1,6 @@
 -- The law over sessions, by induction over the turns, under any rule that keeps its laws.
 use Rattle.std.proofs.Common.{◌≡◌, ℕ, ◌+◌, ◌<◌, ◌≤◌, Bool, List, [], ◌∷◌, Result, sym, refl, subst, inl, inr, arith}
-use Rattle.std.specs.List.{AllByRecursion as All}
+use Rattle.std.specs.List.{AllByRecursion}
 use Rattle.std.proofs.ByRecursion.{All-weaker}
 use Rattle.std.proofs.lemmas.Bool.{cases_eq}
 use Rattle.rules.specs.Domain.{Laws}
@@ -22,11 +22,11 @@ any_weaker P Q f (x ∷ xs) (inr h) = inr (any_weaker P Q f xs h)
 
 -- all rows so far name numbers below n
 abbrev NamedBelow : {Message : Type 0} → ℕ → List (Turn Message) → Type 0
-NamedBelow n h = All (λ t. All (NumbersBelow n) t.rows) h
+NamedBelow n h = AllByRecursion (λ t. AllByRecursion (NumbersBelow n) t.rows) h
 
 named_later : {Message : Type 0} (m n : ℕ) → m ≤ n → (h : List (Turn Message)) → NamedBelow m h → NamedBelow n h
 named_later m n le h a =
-    All-weaker (λ t. All (NumbersBelow m) t.rows) (λ t. All (NumbersBelow n) t.rows)
+    All-weaker (λ t. AllByRecursion (NumbersBelow m) t.rows) (λ t. AllByRecursion (NumbersBelow n) t.rows)
     (λ t b. All-weaker (NumbersBelow m) (NumbersBelow n) (λ row k. (omega (arith, k.0), omega (arith, k.1))) t.rows b) h a
 
 over_below : {Message : Type 0} (is : RowKind → Bool) (n : ℕ) (h : List (Turn Message)) → NamedBelow n h → over is n h ≡ 0
@@ -105,7 +105,7 @@ module _ {Message : Type 0} (reading : Message → Result Call Refusal) where
       conserved = s.conserved;
       numbered = s.numbered;
       no_other = s.no_other;
-      named = All-weaker (λ t. All (NumbersBelow v.book.next) t.rows) (λ t. All (λ row. AbsentOrGiven reading h row.buyer × AbsentOrGiven reading h row.seller) t.rows)
+      named = All-weaker (λ t. AllByRecursion (NumbersBelow v.book.next) t.rows) (λ t. AllByRecursion (λ row. AbsentOrGiven reading h row.buyer × AbsentOrGiven reading h row.seller) t.rows)
           (λ t a. All-weaker (NumbersBelow v.book.next) (λ row. AbsentOrGiven reading h row.buyer × AbsentOrGiven reading h row.seller)
           (λ row k. (absent_or_given row.buyer k.0, absent_or_given row.seller k.1)) t.rows a) h s.named;
       rests_given = All-weaker (Used v.book.next) (λ o. Given reading h o.number) (λ o k. given_used o.number k.0 k.1) v.book.orders s.orderly.used;

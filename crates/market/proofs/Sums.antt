@@ -1,6 +1,6 @@
 -- Sums over lists: what rows and a book come to for one order.
 use Rattle.std.proofs.Common.{◌≡◌, ℕ, zero, suc, ◌+◌, ◌<◌, ◌≤◌, Bool, cond, ◌&&◌, eqb, List, [], ◌∷◌, ◌++◌, refl, arith}
-use Rattle.std.specs.List.{AllByRecursion as All}
+use Rattle.std.specs.List.{AllByRecursion}
 use Rattle.std.proofs.lemmas.Bool.Decides.{nat_tests}
 use Rattle.market.specs.declared.order.Order.{Order}
 use Rattle.market.specs.declared.row.Row.{Row}
@@ -14,7 +14,7 @@ pub sum_of-++ : {X : Type 0} (f : X → ℕ) (xs ys : List X) → sum_of f (xs +
 sum_of-++ f [] ys = omega arith
 sum_of-++ f (x ∷ xs) ys = omega (arith, sum_of-++ f xs ys)
 
-pub sum_of_zero : {X : Type 0} (f : X → ℕ) (xs : List X) → All (λ x. f x ≡ 0) xs → sum_of f xs ≡ 0
+pub sum_of_zero : {X : Type 0} (f : X → ℕ) (xs : List X) → AllByRecursion (λ x. f x ≡ 0) xs → sum_of f xs ≡ 0
 sum_of_zero f [] a = refl
 sum_of_zero f (x ∷ xs) a = let z = a.0 in omega (arith, sum_of_zero f xs a.1)
 
@@ -39,12 +39,12 @@ gone-blank n (suc k) = omega (arith, gone-blank n k)
 abbrev pub NumbersBelow : ℕ → Row → Type 0
 NumbersBelow m row = (row.buyer < m) × (row.seller < m)
 
-pub blank_below : (m k : ℕ) → 1 ≤ m → All (NumbersBelow m) (blank k)
+pub blank_below : (m k : ℕ) → 1 ≤ m → AllByRecursion (NumbersBelow m) (blank k)
 blank_below m zero h = tt
 blank_below m (suc k) h = ((omega arith, omega arith), blank_below m k h)
 
 -- rows whose numbers are all below n say nothing of n
-pub counted_below : (is : RowKind → Bool) (m n : ℕ) → m ≤ n → (rows : List Row) → All (NumbersBelow m) rows → counted is n rows ≡ 0
+pub counted_below : (is : RowKind → Bool) (m n : ℕ) → m ≤ n → (rows : List Row) → AllByRecursion (NumbersBelow m) rows → counted is n rows ≡ 0
 counted_below is m n h [] a = refl
 counted_below is m n h (row ∷ rows) a =
     let buyer = a.0.0 in
@@ -54,7 +54,7 @@ counted_below is m n h (row ∷ rows) a =
     omega arith
 
 -- orders whose numbers are all below n
-pub resting_below : (m n : ℕ) → m ≤ n → (os : List Order) → All (λ o. o.number < m) os → resting n os ≡ 0
+pub resting_below : (m n : ℕ) → m ≤ n → (os : List Order) → AllByRecursion (λ o. o.number < m) os → resting n os ≡ 0
 resting_below m n h [] a = refl
 resting_below m n h (o ∷ os) a =
     let below = a.0 in

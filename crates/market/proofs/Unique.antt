@@ -1,6 +1,6 @@
 -- A match has one end, and so has a call.
 use Rattle.std.proofs.Common.{◌≡◌, ℕ, ◌+◌, ◌-◌, ◌<◌, true, false, List, [], ◌∷◌, ◌++◌, sym, refl, ap, subst, ap₂, inl, inr, arith}
-use Rattle.std.specs.List.{AllByRecursion as All}
+use Rattle.std.specs.List.{AllByRecursion}
 use Rattle.std.proofs.lemmas.Int.{ints}
 use Rattle.std.proofs.lemmas.Bool.{both_ways}
 use Rattle.market.specs.declared.book_id.BookId.{BookId}
@@ -17,7 +17,7 @@ use Rattle.market.specs.Prices.{opposite, good}
 use Rattle.market.specs.Rows.{fill_rows}
 
 -- what holds of all holds of some
-all_any : {X : Type 0} (P Q : X → Type 0) (R : Type 0) → ((x : X) → P x → Q x → R) → (xs : List X) → All P xs → Any Q xs → R
+all_any : {X : Type 0} (P Q : X → Type 0) (R : Type 0) → ((x : X) → P x → Q x → R) → (xs : List X) → AllByRecursion P xs → Any Q xs → R
 all_any P Q R f [] a h = absurd h
 all_any P Q R f (x ∷ xs) a (inl h) = f x a.0 h
 all_any P Q R f (x ∷ xs) a (inr h) = all_any P Q R f xs a.1 h

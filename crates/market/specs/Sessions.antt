@@ -1,6 +1,6 @@
 -- A session: what was asked and answered since a venue was built, and the law that holds of every one.
 use Rattle.std.specs.Prelude.{◌≡◌, ℕ, ◌+◌, ◌<◌, ◌≤◌, Bool, true, false, cond, ◌&&◌, ◌||◌, ◌⊎◌, List, [], ◌∷◌, ◌<ℤ◌, Ok, Err, Result, ◌==◌}
-use Rattle.std.specs.List.{AllByRecursion as All}
+use Rattle.std.specs.List.{AllByRecursion}
 use Rattle.market.specs.declared.call.Call.{Call}
 use Rattle.market.specs.declared.call.Call.TheVariants.{Enter, Amend, Cancel, Quote, Define, Switch}
 use Rattle.market.specs.declared.order.Order.{Order}
@@ -117,7 +117,7 @@ module _ {Message : Type 0} (reading : Message → Result Call Refusal) where
     pub numbered : (n : ℕ) → 1 ≤ n → n < v.book.next → (q : ℕ) × Entered h n q
     pub no_other : (n : ℕ) → Given h n → (1 ≤ n) × (n < v.book.next)
     -- every buyer or seller in a row, and every resting order, is an order whose number was given; as the law holds after each turn, no later than in that turn
-    pub named : All (λ t. All (λ row. AbsentOrGiven h row.buyer × AbsentOrGiven h row.seller) t.rows) h
-    pub rests_given : All (λ o. Given h o.number) v.book.orders
+    pub named : AllByRecursion (λ t. AllByRecursion (λ row. AbsentOrGiven h row.buyer × AbsentOrGiven h row.seller) t.rows) h
+    pub rests_given : AllByRecursion (λ o. Given h o.number) v.book.orders
     -- no resting buy has a price at or above that of a resting sell of the same book
-    pub uncrossed : All (λ x. All (λ y. Apart x y) v.book.orders) v.book.orders
+    pub uncrossed : AllByRecursion (λ x. AllByRecursion (λ y. Apart x y) v.book.orders) v.book.orders

@@ -1,5 +1,5 @@
 use Rattle.std.proofs.Common.{◌≡◌, ◌<◌, false, length, take, sym, ap, ◌∙◌, subst, arith}
-use Rattle.std.specs.List.{AllByRecursion as All}
+use Rattle.std.specs.List.{AllByRecursion}
 use Rattle.std.proofs.lemmas.List.{take_all, get_or_default}
 use Rattle.market.specs.declared.order.Order.{Order}
 use Rattle.market.specs.Orders.{own}
@@ -19,4 +19,4 @@ loop-i-preserved c = not_yet c.args.participant c.args.number c.args.orders.now 
 pub returns : goal.returns
 returns c =
     let whole : take c.loop-i.i c.args.orders.now ≡ c.args.orders.now = take_all _ _ (omega arith) in
-    nobody_owned c.args.participant c.args.number c.args.orders.now (subst (All (λ (o : Order). own c.args.participant c.args.number o ≡ false)) whole c.loop-i.invariant)
+    nobody_owned c.args.participant c.args.number c.args.orders.now (subst (AllByRecursion (λ (o : Order). own c.args.participant c.args.number o ≡ false)) whole c.loop-i.invariant)
