@@ -47,7 +47,7 @@ fn session_in_memory(rt: HostRuntime) -> Result<(), Fail> {
     serve_wire(rt.alloc(), &mut wire)?;
     assert_eq!(rt;
         wire.output.as_slice(),
-        b"ok 1 0\nok 0 0\nok 1 0\nok 2 3\nT 1 1 3 12 2 1\nno 2 1 0\nok 1 2\nX 0 1 2 0 0 1\n"
+        b"ok 1 0\nok 0 0\nok 1 0\nok 2 3\nT 1 1 3 12 2 1\nno 2 1 0\nok 1 2\nX 0 1 2 0 0 1\n".as_slice()
     );
     Ok(())
 }
