@@ -1,12 +1,12 @@
 -- How a session stands after each step of its reader.
-use Rattle.std.proofs.Common.{◌≡◌, ℕ, zero, suc, ◌+◌, ◌-◌, ◌<◌, ◌≤◌, Bool, true, false, cond, List, [], ◌∷◌, ◌++◌, map, length, take, drop, vec_items, sym, refl, ap, ◌∙◌, subst, arith}
+use Rattle.std.proofs.Common.{◌≡◌, ℕ, ◌+◌, ◌-◌, Bool, true, false, cond, List, [], ◌∷◌, ◌++◌, map, take, drop, vec_items, sym, refl, ap, ◌∙◌, subst, arith}
 use mathlib.Core.Path.{transport}
 use Rattle.std.proofs.lemmas.List.{append_assoc, append-nil, drop-drop, drop-take, take-append-drop}
 use Rattle.console.specs.declared.reader.LineReader.{LineReader}
 use Rattle.market.specs.declared.product.Product.{Product}
 use Rattle.console.specs.Sessions.{Ready}
 use Rattle.console.specs.Wires.{Event, Took, taken, given}
-use Rattle.console.specs.Cuts.{start, pending, Fed}
+use Rattle.console.specs.Cuts.{start, Fed}
 use Rattle.console.specs.Lines.{closed_lines, open_line, has_newline, before_newline}
 use Rattle.console.specs.Reading.{unread, CutOn, Stands, Keeps, OneMore, Still}
 use Rattle.console.proofs.Feeds.{held, grows, stays, cut_feeds}

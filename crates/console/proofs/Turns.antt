@@ -1,5 +1,5 @@
 -- How the answers to one line after the other make up a session.
-use Rattle.std.proofs.Common.{◌≡◌, ℕ, Bool, true, false, List, [], ◌∷◌, ◌++◌, Result, sym, refl, ap, ◌∙◌, subst}
+use Rattle.std.proofs.Common.{◌≡◌, ℕ, Bool, true, false, List, [], ◌∷◌, ◌++◌, Result, sym, ap, ◌∙◌, subst}
 use mathlib.Core.Path.{transport}
 use Rattle.std.proofs.lemmas.List.{append_assoc, append-nil}
 use Rattle.market.specs.declared.product.Product.{Product}

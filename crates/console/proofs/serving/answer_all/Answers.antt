@@ -1,4 +1,4 @@
-use Rattle.std.proofs.Common.{◌≡◌, ℕ, Bool, true, false, List, [], ◌∷◌, ◌++◌, vec_items, sym, refl, ap, ◌∙◌, subst, arith}
+use Rattle.std.proofs.Common.{ℕ, Bool, List, [], ◌∷◌, ◌++◌, vec_items, sym, refl, ap, ◌∙◌, subst, arith}
 use mathlib.Core.Path.{transport}
 use Rattle.std.proofs.lemmas.Result.{IfOk-from_err}
 use Rattle.gate.specs.Views.{view}

@@ -1,5 +1,4 @@
-use Rattle.std.proofs.Common.{◌≡◌, ◌+◌, ◌<◌, List, length, get_or, drop, sym, refl, ap, ◌∙◌, add-zero, rules}
-use Rattle.market.specs.declared.product.Band.{Band}
+use Rattle.std.proofs.Common.{sym, ap, ◌∙◌, add-zero}
 use Rattle.market.specs.Bands.{first_broken}
 use Rattle.gate.specs.Conditions.{passes}
 use Rattle.gate.proofs.Tables.{broken_here, broken_later, broken_none}

@@ -1,4 +1,4 @@
-use Rattle.std.proofs.Common.{◌≡◌, ◌+◌, ◌<◌, length, get_or, drop, None, sym, refl, ap, ◌∙◌, arith, rules}
+use Rattle.std.proofs.Common.{None, sym, ◌∙◌}
 use Rattle.gate.proofs.Tables.{topmost-here, topmost_later, topmost_none}
 use Rattle.gate.proofs.fault.topmost.Goals as goal
 

@@ -1,4 +1,4 @@
-use Rattle.std.proofs.Common.{◌≡◌, ℕ, Bool, false, List, [], vec_items, sym, subst}
+use Rattle.std.proofs.Common.{◌≡◌, Bool, false, [], vec_items, sym, subst}
 use Rattle.std.proofs.lemmas.Result.{IfOk-weaker, IfOk-from_err}
 use Rattle.console.specs.Reading.{Stands, Keeps, Breaks, AtEnd}
 use Rattle.console.proofs.Breaking.{refused_any, refused_then}

@@ -1,4 +1,4 @@
-use Rattle.std.proofs.Common.{◌≡◌, length, sym, refl, ap, ◌∙◌}
+use Rattle.std.proofs.Common.{length, sym, refl}
 use Rattle.market.specs.declared.call.Call.TheVariants.{Cancel}
 use Rattle.market.specs.BookCalls.{Cancels}
 use Rattle.market.specs.Venues.{Does, cancels}

@@ -1,4 +1,4 @@
-use Rattle.std.proofs.Common.{◌≡◌, length, Err, sym, refl, ap, ◌∙◌}
+use Rattle.std.proofs.Common.{length, sym, refl}
 use Rattle.market.specs.declared.call.Call.TheVariants.{Enter}
 use Rattle.market.specs.BookCalls.{Enters}
 use Rattle.market.specs.Venues.{Does, enters}

@@ -1,4 +1,4 @@
-use Rattle.std.proofs.Common.{◌≡◌, length, sym, refl}
+use Rattle.std.proofs.Common.{length, sym, refl}
 use Rattle.gate.specs.Views.{view}
 use Rattle.line.specs.Verdicts.{line_call}
 use Rattle.line.proofs.Sessions.{follows_unread, follows_read}
