@@ -35,6 +35,7 @@ Figures-stand FiguresStand
 Filled-twice FilledTwice
 First-failing FirstFailing
 First-misfit FirstMisfit
+Goes_on GoesOn
 Line-refusal LineRefusal
 Lines-part LinesPart
 Named-below NamedBelow

@@ -58,5 +58,5 @@ abbrev pub turn_of : List ℕ → ℕ → Result (ℕ × ℕ) Refusal → List R
 turn_of line room answer rows = record { message = line; room = room; answer = answer; rows = rows }
 
 -- for every history of lines that leads from a venue just built to the venue before, this turn leads on to the venue after, as the rules say, and there the law over sessions holds
-pub record Goes_on (shares : List ℕ → ℕ → List ℕ) (before : View) (t : Turn (List ℕ)) (after : View) : Type 0 where
+pub record GoesOn (shares : List ℕ → ℕ → List ℕ) (before : View) (t : Turn (List ℕ)) (after : View) : Type 0 where
   pub goes : (h : List (Turn (List ℕ))) → Reached line_call shares h before → Reached line_call shares (t ∷ h) after × Sound line_call (t ∷ h) after

@@ -63,19 +63,19 @@ module _ (shares : List ℕ → ℕ → List ℕ) (o : Order) where
   ends_clear {os = os} none (fill p pq best g m) = absurd (best_not_within (lot_book o.lot) o.side os p o.price best g none)
 
   -- the rest of a match after a fill at p
-  abbrev Goes_on : ℕ → ℕ → List Order → Price → List Row → ℕ → ℕ → List Order → Type 0
-  Goes_on f q os p rows f' q' os' = Match shares o (f + 1) (q - given o p os q) (after_fill (in_level (lot_book o.lot) (opposite o.side) p) os (divided shares o p os q)) rows f' q' os'
+  abbrev GoesOn : ℕ → ℕ → List Order → Price → List Row → ℕ → ℕ → List Order → Type 0
+  GoesOn f q os p rows f' q' os' = Match shares o (f + 1) (q - given o p os q) (after_fill (in_level (lot_book o.lot) (opposite o.side) p) os (divided shares o p os q)) rows f' q' os'
 
   ends_fill : {f q : ℕ} {os : List Order} {rows : List Row} {f' q' : ℕ} {os' : List Order} (p : Price) → 0 < q →
       Best (lot_book o.lot) o.side os p → good o.side p o.price ≡ true →
-      ((rows₂ : List Row) (f₂ q₂ : ℕ) (os₂ : List Order) → Goes_on f q os p rows₂ f₂ q₂ os₂ → Same rows rows₂ f' f₂ q' q₂ os' os₂) →
+      ((rows₂ : List Row) (f₂ q₂ : ℕ) (os₂ : List Order) → GoesOn f q os p rows₂ f₂ q₂ os₂ → Same rows rows₂ f' f₂ q' q₂ os' os₂) →
       {rows₂ : List Row} {f₂ q₂ : ℕ} {os₂ : List Order} → Match shares o f q os rows₂ f₂ q₂ os₂ →
       Same (fill_rows f o.number (facing o p os) (divided shares o p os q) ++ rows) rows₂ f' f₂ q' q₂ os' os₂
   ends_fill p pq best g more filled = absurd (omega arith)
   ends_fill {os = os} p pq best g more (no_more none) = absurd (best_not_within (lot_book o.lot) o.side os p o.price best g none)
   ends_fill {f} {q} {os} p pq best g more {f₂ = f₂} {q₂} {os₂} (fill {rows = rows₂} r pr other k m) =
       let e : r ≡ p = best_unique (lot_book o.lot) o.side os r p other best in
-      let s = more rows₂ f₂ q₂ os₂ (subst (λ x. Goes_on f q os x rows₂ f₂ q₂ os₂) e m) in
+      let s = more rows₂ f₂ q₂ os₂ (subst (λ x. GoesOn f q os x rows₂ f₂ q₂ os₂) e m) in
       record {
         rows_are = ap₂ (λ x l. fill_rows f o.number (facing o x os) (divided shares o x os q) ++ l) (sym e) s.rows_are;
         fill_is = s.fill_is;

@@ -5,7 +5,7 @@ ghost use Rattle.market.specs.Endings.{Follows};
 ghost use Rattle.market.specs.Unique.{RulesDetermine};
 ghost use Rattle.market.specs.Venues.{Takes};
 ghost use Rattle.gate.specs.Views.{view};
-ghost use Rattle.line.specs.Gateways.{bands_given, build_refusal, OpensAs, Opens, by_line, Goes_on, turn_of};
+ghost use Rattle.line.specs.Gateways.{bands_given, build_refusal, OpensAs, Opens, by_line, GoesOn, turn_of};
 ghost use Rattle.line.specs.Verdicts.{line_call, build_line, check_code};
 
 use super::{Gateway, Opening};
@@ -82,7 +82,7 @@ impl<R: AllocationRule> Gateway<R> {
         ensures alone { RulesDetermine }
         ensures rule { self.new.venue.rule ≡ self.old.venue.rule }
         ensures checked { by_line result ≡ not (check_code (line_call line.now) == 0) }
-        ensures session { Goes_on (R.AllocationRule.shares self.old.venue.rule) (view self.old.venue) (turn_of line.now (length report.old) result report.new) (view self.new.venue) }
+        ensures session { GoesOn (R.AllocationRule.shares self.old.venue.rule) (view self.old.venue) (turn_of line.now (length report.old) result report.new) (view self.new.venue) }
     {
         self.act(line, report)
     }
