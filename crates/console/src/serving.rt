@@ -75,15 +75,27 @@ fn serve_under<R: AllocationRule + Drop, W: Wire>(
 {
     match open_venue(heap, rule, reader.line(), out)? {
         None => flush(wire, out),
-        Some(mut gateway) => {
-            let mut report = vec![in heap; Row::blank(); ROWS]?;
-            answer_all(&mut gateway, report.as_mut_slice(), wire, reader, out)
-        }
+        Some(gateway) => answer_all(gateway, heap, wire, reader, out),
     }
 }
 
-// Answers every line up to the end of the input.
-fn answer_all<R: AllocationRule, W: Wire>(
+// Answers every line up to the end of the input, each with a report of 1,024 rows.
+fn answer_all<R: AllocationRule + Drop, W: Wire>(
+    mut gateway: Gateway<R>,
+    heap: Global,
+    wire: &mut W,
+    reader: &mut LineReader,
+    out: &mut Vec<u8>,
+) -> anyhow::Result<()>
+    ensures answered { OnOk result ((rules : AProduct → List ℕ → ℕ → List ℕ) (used text : List ℕ) → RepliesOn rules (R.AllocationRule.shares gateway.venue.rule) (view gateway.venue) used text → Stands rules (W.Wire.log wire.old) reader.old out.old.items used text → AllAnswered rules (R.AllocationRule.shares gateway.venue.rule) (view gateway.venue) (W.Wire.log wire.new) (W.Wire.over wire.new) reader.new out.new.items used text) }
+    ensures failed { OnErr result ((rules : AProduct → List ℕ → ℕ → List ℕ) (used text : List ℕ) → RepliesOn rules (R.AllocationRule.shares gateway.venue.rule) (view gateway.venue) used text → Stands rules (W.Wire.log wire.old) reader.old out.old.items used text → BrokenOff rules (W.Wire.log wire.new)) }
+{
+    let mut report = vec![in heap; Row::blank(); ROWS]?;
+    answer_lines(&mut gateway, report.as_mut_slice(), wire, reader, out)
+}
+
+// Answers every line up to the end of the input, each with this report.
+fn answer_lines<R: AllocationRule, W: Wire>(
     gateway: &mut Gateway<R>,
     report: &mut [Row],
     wire: &mut W,

@@ -50,8 +50,8 @@ returns-in-None g c =
           c.flush.ensures.failed;
     }
 
-pub returns-in_ok-report-in-Some : goal.returns-in_ok-report-in-Some
-returns-in_ok-report-in-Some g c =
+pub returns-in-Some : goal.returns-in-Some
+returns-in-Some g c =
     let log = g.W.Wire.log in
     let log' = log c.answer_all.new.wire in
     let over = g.W.Wire.over c.answer_all.new.wire in
@@ -91,11 +91,4 @@ returns-in_err-open_venue g c =
     record {
       served = IfOk-from_err c.from_residual.result _ c.from_residual.ensures.0;
       failed = refused_any c.from_residual.result _ (λ rules used line _ s only _. broken_unanswered used line only s);
-    }
-
-pub returns-in_err-report-in-Some : goal.returns-in_err-report-in-Some
-returns-in_err-report-in-Some g c =
-    record {
-      served = IfOk-from_err c.from_residual-in_err-report-in-Some.result _ c.from_residual-in_err-report-in-Some.ensures.0;
-      failed = refused_any c.from_residual-in_err-report-in-Some.result _ (λ rules used line _ s only _. broken_unanswered used line only s);
     }

@@ -3,7 +3,7 @@ use Rattle.market.specs.declared.product.Product.{Product}
 use Rattle.gate.specs.Views.{view}
 use Rattle.console.specs.Reading.{Stands}
 use Rattle.console.specs.Serving.{RepliesOn, AnsweredOn}
-use Rattle.console.proofs.serving.answer_all.Given as goal
+use Rattle.console.proofs.serving.answer_lines.Given as goal
 
 abbrev pub invariant-loop : goal.invariant-loop
 invariant-loop g l =
