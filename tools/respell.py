@@ -349,6 +349,7 @@ refusal-code refusal_code
 refusal-of refusal_of
 refused-any refused_any
 refused-by refused_by
+refused-field refused_field
 refused-text refused_text
 refused-then refused_then
 refused-weaker refused_weaker
@@ -421,6 +422,7 @@ switch-refused switch_refused
 switches-only switches_only
 take-before take_before
 take-room take_room
+take-front take_front
 takes-checked takes_checked
 takes-keeps takes_keeps
 takes-unique takes_unique

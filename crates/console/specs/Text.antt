@@ -1,4 +1,4 @@
--- What is printed, byte for byte. `decimal n` and `signed z` are what a hole `{n}` writes of a number.
+-- What is printed, byte for byte. `decimal n` and `signed_decimal z` are what a hole `{n}` writes of a number.
 use Rattle.std.specs.Prelude.{ℕ, cond, List, [], ◌∷◌, ◌++◌, ℤ, Ok, Err, codes, decimal, Result, ◌==◌}
 use Rattle.std.specs.Fmt.{signed_decimal}
 use Rattle.market.specs.declared.refusal.Refusal.{Refusal}

@@ -31,7 +31,7 @@ const BLOCK: usize = 65_536;
 
 // Serves one session from standard input to standard output.
 pub fn serve(rt: &HostRuntime) -> anyhow::Result<()> {
-    serve_wire(rt.alloc(), &mut StandardWire::new(rt))
+    serve_wire(rt.alloc(), &mut StandardWire { rt })
 }
 
 // Serves one session over any wire: the first line builds the venue, futures under price/time and options under pro rata.

@@ -27,13 +27,7 @@ pub trait Wire {
 // Standard input and standard output.
 #[derive(Drop)]
 pub struct StandardWire<'a> {
-    rt: &'a HostRuntime,
-}
-
-impl<'a> StandardWire<'a> {
-    pub fn new(rt: &'a HostRuntime) -> StandardWire<'a> {
-        StandardWire { rt }
-    }
+    pub(crate) rt: &'a HostRuntime,
 }
 
 // What the system read and wrote is known to no contract, so that the log says nothing.

@@ -1,7 +1,7 @@
 -- What is left of a line to a cursor, and what a step takes from it.
 use Rattle.std.specs.Prelude.{◌≡◌, ℕ, ◌+◌, ◌<◌, Bool, true, false, cond, not, List, [], length, drop, Some, None, Ok, Err, Option, Result, ◌==◌, nat_le}
 use Rattle.market.specs.declared.refusal.Refusal.{Refusal}
-use Rattle.market.specs.declared.refusal.Refusal.TheVariants.{Field as refused-field}
+use Rattle.market.specs.declared.refusal.Refusal.TheVariants.{Field as refused_field}
 use Rattle.line.specs.Bytes.{letter, fields_of, first, others}
 use Rattle.line.specs.Numbers.{unsigned, minus, decimal, lone_capital, code}
 use Rattle.line.specs.Kinds.{opens, none_left, Form, read_as}
@@ -47,9 +47,9 @@ Next s (Some p) t =
 -- the next field passes a test and gives its value, or is refused at its place
 abbrev pub Took : {X : Type 0} → (List ℕ → Bool) → (List ℕ → X) → Cursor → Result X Refusal → Cursor → Type 0
 Took p value s (Ok v) t = (opens p (rest s) ≡ true) × (v ≡ value (first (rest s))) × (rest t ≡ others (rest s)) × (t.index ≡ s.index + 1)
-Took p value s (Err e) t = (opens p (rest s) ≡ false) × (e ≡ refused-field s.index)
+Took p value s (Err e) t = (opens p (rest s) ≡ false) × (e ≡ refused_field s.index)
 
 -- no field is left, or the next is refused as surplus
 abbrev pub Ended : {X : Type 0} → Cursor → Result X Refusal → Type 0
 Ended s (Ok u) = none_left (rest s) ≡ true
-Ended s (Err e) = (none_left (rest s) ≡ false) × (e ≡ refused-field s.index)
+Ended s (Err e) = (none_left (rest s) ≡ false) × (e ≡ refused_field s.index)

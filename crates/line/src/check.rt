@@ -1,4 +1,4 @@
-// The check of a line, which programs in C call: it keeps no state.
+// The check of a line: it keeps no state.
 ghost use Rattle.std.specs.Prelude.{◌≡◌, is_ok, ◌==◌};
 ghost use Rattle.line.specs.Verdicts.{line_call, check_code};
 

@@ -1,5 +1,5 @@
 // The calls of a cutter.
-ghost use Rattle.std.specs.Prelude.{◌≡◌, ℕ, ◌+◌, ◌^◌, ◌<◌, ◌≤◌, List, [], ◌++◌, length, take as take-front, IfOk, if◌then◌else◌, vec_len, vec_capacity};
+ghost use Rattle.std.specs.Prelude.{◌≡◌, ℕ, ◌+◌, ◌^◌, ◌<◌, ◌≤◌, List, [], ◌++◌, length, take as take_front, IfOk, if◌then◌else◌, vec_len, vec_capacity};
 ghost use Rattle.console.specs.Lines.{before_newline, LinesPart};
 ghost use Rattle.console.specs.Cuts.{start, kept, pending, handed_by, Fed, Cuts};
 
@@ -58,7 +58,7 @@ impl LineCutter {
     // Takes from a block up to and with the first newline, or all of it.
     pub fn take(&mut self, block: &[u8]) -> Cut
         ensures cuts { Cuts self.old block.now result self.new }
-        ensures fed { (input : List ℕ) (handed : List (List ℕ)) → Fed self.old input handed → Fed self.new (input ++ take-front result.used block.now) (handed ++ handed_by result self.new) }
+        ensures fed { (input : List ℕ) (handed : List (List ℕ)) → Fed self.old input handed → Fed self.new (input ++ take_front result.used block.now) (handed ++ handed_by result self.new) }
         ensures within { result.used ≤ length block.now }
         ensures forward { 0 < length block.now → 0 < result.used }
     {
