@@ -4,8 +4,8 @@
 usage: python3 tools/respell.py    at the top of a checkout, once, after the language's own script
 
 A whole name is turned, never a part of one. Left as they are: names that the check makes (the first part
-after c, l or goal, and goals that an answer file declares), functions of src/, comments but for what
-stands in backticks, and strings.
+after c, l, g or goal, and goals that an answer file declares), functions of src/, comments but for what
+stands in backticks, and strings of src/.
 """
 import os
 import re
@@ -467,7 +467,7 @@ write-end write_end
 write-more write_more
 """.strip().splitlines())
 
-# a name, with what stands before it on its path
+# a whole name
 NAME = re.compile(r"(?<![\w'\u2032+-])[A-Za-z][\w'\u2032]*(?:-(?:[\w'\u2032]+|\+\+))*(?![\w'\u2032])")
 # a path that begins at a proof's own record or at its goals
 MADE = re.compile(r"(?<![\w'.-])(?:c|l|goal|g)\.$")
