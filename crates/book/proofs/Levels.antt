@@ -1,10 +1,11 @@
 -- A loop that reads a level, and one that finds the best price.
-use Rattle.std.proofs.Common.{◌≡◌, ℕ, ◌+◌, ◌<◌, Bool, true, false, cond, List, [], ◌∷◌, ◌++◌, map, length, get_or, take, pos, Some, None, filter, Option, sym, refl, arith}
-use Rattle.std.proofs.lemmas.List.Elements.{filter_more}
-use Rattle.std.proofs.ByRecursion.{All-push, All-weaker}
-use Rattle.std.proofs.lemmas.List.{take_more, map-append, append-nil}
+use Rattle.std.proofs.Common.{◌≡◌, ℕ, ◌+◌, ◌<◌, Bool, true, false, cond, List, [], ◌∷◌, ◌++◌, map, length, get_or, take, pos, Some, None, filter, Option, sym, refl, ◌∙◌, subst, arith}
+use Rattle.std.proofs.lemmas.List.Elements.{All-nil, All-push, filter_more}
+use Rattle.std.proofs.lemmas.List.Quantifiers.{Any-push}
+use Rattle.std.proofs.lemmas.List.{map-append, append-nil, append_assoc, length-append, get_or_append_left}
 use Rattle.std.proofs.lemmas.Int.{ints}
-use Rattle.std.proofs.lemmas.Bool.{both_ways}
+use Rattle.std.proofs.lemmas.Bool.{both_ways, cond_both}
+use Rattle.std.specs.List.{fold, All, Any}
 use Rattle.rules.specs.Domain.{total}
 use Rattle.market.specs.declared.book_id.BookId.{BookId}
 use Rattle.market.specs.declared.order.Lot.TheVariants.{Outright}
@@ -12,11 +13,10 @@ use Rattle.market.specs.declared.order.Order.{Order}
 use Rattle.market.specs.declared.price.Price.{Price}
 use Rattle.market.specs.declared.side.Side.{Side}
 use Rattle.market.specs.declared.side.Side.TheVariants.{Buy, Sell}
-use Rattle.market.specs.Levels.{in_level, level, quantities}
+use Rattle.market.specs.Levels.{in_level, level, quantities, Best}
 use Rattle.market.specs.Orders.{stands, quantity_of}
 use Rattle.market.specs.Prices.{opposite, good}
-use Rattle.book.specs.Best.{better_of, BestFound}
-use Rattle.book.proofs.Anys.{any_push, any_left}
+use Rattle.book.specs.Best.{better_of, best_of}
 
 -- the order that a read past the end would give
 abbrev pub no_order : Order
@@ -43,6 +43,11 @@ read_more b s p os k d qs qs' lt h e =
 
 -- ---- the best price
 
+-- the best price, or none where the opposite side is empty
+abbrev pub BestFound : BookId → Side → List Order → Option Price → Type 0
+BestFound b s os None = All (λ o. stands b (opposite s) o ≡ false) os
+BestFound b s os (Some p) = Best b s os p
+
 good_self : (s : Side) (p : Price) → good s p p ≡ true
 good_self Buy p = grind (arith, ints)
 good_self Sell p = grind (arith, ints)
@@ -52,46 +57,58 @@ good-over : (s : Side) (p q r : Price) → good s q p ≡ false → good s q r �
 good-over Buy p q r h k = grind (arith, ints)
 good-over Sell p q r h k = grind (arith, ints)
 
+-- what some order has, some order of a longer list has
+any_left : {X : Type 0} (P : X → Type 0) (xs ys : List X) → Any P xs → Any P (xs ++ ys)
+any_left P xs ys h = (h.0, h.1, omega (arith, length-append xs ys), get_or_append_left xs ys h.1 h.0 h.2 ∙ h.3, h.4)
+
 module _ (b : BookId) (s : Side) (os : List Order) (o : Order) where
   abbrev here : Order → Bool
   here = stands b (opposite s)
+
+  -- the price p is at least as good as that of x, if x stands there
+  abbrev AsGood : Price → Order → Type 0
+  AsGood p x = here x ≡ true → good s p x.price ≡ true
 
   -- an order that stands elsewhere changes nothing
   found_no : (best : Option Price) → BestFound b s os best → here o ≡ false → BestFound b s (os ++ o ∷ []) best
   found_no None h n = All-push (λ x. here x ≡ false) os o h n
   found_no (Some p) h n = record {
-    there = any_left (λ x. (here x ≡ true) × (x.price ≡ p)) os (o ∷ []) h.there;
-    none_better = All-push (λ x. here x ≡ true → good s p x.price ≡ true) os o h.none_better (λ y. absurd (both_ways (here o) n y));
+    there = any_left _ os (o ∷ []) h.there;
+    none_better = All-push (AsGood p) os o h.none_better (λ y. absurd (both_ways _ n y));
   }
 
   -- an order that stands there may be the better one
   found_yes : (best : Option Price) → BestFound b s os best → here o ≡ true → BestFound b s (os ++ o ∷ []) (better_of s best o.price)
   found_yes None h y = record {
-    there = any_push (λ x. (here x ≡ true) × (x.price ≡ o.price)) os o (y, refl);
-    none_better = All-push (λ x. here x ≡ true → good s o.price x.price ≡ true) os o
-        (All-weaker (λ x. here x ≡ false) (λ x. here x ≡ true → good s o.price x.price ≡ true) (λ x n t. absurd (both_ways (here x) n t)) os h)
-        (λ _. good_self s o.price);
+    there = Any-push _ os o (y, refl);
+    none_better = All-push (AsGood o.price) os o (λ i x at t. absurd (both_ways _ (h i x at) t)) (λ _. good_self s o.price);
   }
   found_yes (Some q) h y = go (good s q o.price) refl
     where
       go : (t : Bool) → good s q o.price ≡ t → BestFound b s (os ++ o ∷ []) (Some (cond t q o.price))
       go true e = record {
-        there = any_left (λ x. (here x ≡ true) × (x.price ≡ q)) os (o ∷ []) h.there;
-        none_better = All-push (λ x. here x ≡ true → good s q x.price ≡ true) os o h.none_better (λ _. e);
+        there = any_left _ os (o ∷ []) h.there;
+        none_better = All-push (AsGood q) os o h.none_better (λ _. e);
       }
       go false e = record {
-        there = any_push (λ x. (here x ≡ true) × (x.price ≡ o.price)) os o (y, refl);
-        none_better = All-push (λ x. here x ≡ true → good s o.price x.price ≡ true) os o
-            (All-weaker (λ x. here x ≡ true → good s q x.price ≡ true) (λ x. here x ≡ true → good s o.price x.price ≡ true) (λ x g t. good-over s o.price q x.price e (g t)) os h.none_better)
-            (λ _. good_self s o.price);
+        there = Any-push _ os o (y, refl);
+        none_better = All-push (AsGood o.price) os o (λ i x at t. good-over s o.price q _ e (h.none_better i x at t)) (λ _. good_self s o.price);
       }
 
-pub best_more : (b : BookId) (s : Side) (os : List Order) (k : ℕ) (d : Order) (best best' : Option Price) → k < length os
-    → BestFound b s (take k os) best
-    → best' ≡ cond (stands b (opposite s) (get_or os k d)) (better_of s best (get_or os k d).price) best
-    → BestFound b s (take (k + 1) os) best'
-best_more b s os k d best best' lt h e = rw (take_more os k d lt, e) (go (stands b (opposite s) (get_or os k d)) refl)
-  where
-    go : (t : Bool) → stands b (opposite s) (get_or os k d) ≡ t → BestFound b s (take k os ++ get_or os k d ∷ []) (cond t (better_of s best (get_or os k d).price) best)
-    go true y = found_yes b s (take k os) (get_or os k d) best h y
-    go false n = found_no b s (take k os) (get_or os k d) best h n
+module _ (b : BookId) (s : Side) where
+  -- the prices of the orders that stand opposite, in book order
+  abbrev opposed : List Order → List Price
+  opposed os = map (λ o. o.price) (filter (stands b (opposite s)) os)
+
+  -- what was the best of the orders before goes on to the best of all
+  best_onward : (before : List Order) (best : Option Price) (os : List Order) → BestFound b s before best → BestFound b s (before ++ os) (fold (better_of s) best (opposed os))
+  best_onward before best [] h = subst (λ (xs : List Order). BestFound b s xs best) (sym (append-nil before)) h
+  best_onward before best (o ∷ os) h =
+      subst (λ (xs : List Order). BestFound b s xs (fold (better_of s) best (opposed (o ∷ os)))) (append_assoc before (o ∷ []) os)
+      (cond_both (stands b (opposite s) o) (o ∷ filter (stands b (opposite s)) os) (filter (stands b (opposite s)) os) (λ (xs : List Order). BestFound b s ((before ++ o ∷ []) ++ os) (fold (better_of s) best (map (λ x. x.price) xs)))
+      (λ y. best_onward (before ++ o ∷ []) (better_of s best o.price) os (found_yes b s before o best h y))
+      (λ n. best_onward (before ++ o ∷ []) best os (found_no b s before o best h n)))
+
+  -- a scan finds the best price
+  pub best_found : (os : List Order) → BestFound b s os (best_of b s os)
+  best_found os = best_onward [] None os (All-nil _)

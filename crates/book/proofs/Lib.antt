@@ -1,4 +1,3 @@
-pub mod Anys
 pub mod Levels
 pub mod Reports
 pub mod Taking

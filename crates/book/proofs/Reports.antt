@@ -1,10 +1,11 @@
 -- Rows told one after another.
-use Rattle.std.proofs.Common.{◌≡◌, ℕ, suc, ◌+◌, ◌-◌, ◌<◌, ◌≤◌, Bool, true, false, List, [], ◌∷◌, ◌++◌, length, set, sym, ap, ◌∙◌, subst, arith}
+use Rattle.std.proofs.Common.{◌≡◌, ℕ, suc, ◌+◌, ◌-◌, ◌<◌, ◌≤◌, List, [], ◌∷◌, ◌++◌, length, set, Some, None, Option, sym, refl, ap, ◌∙◌, subst, arith}
 use Rattle.std.proofs.lemmas.List.{append_assoc, append-nil, length-append, length-replicate, length-set, set_at}
+use Rattle.std.specs.Option.{MatchOption}
 use Rattle.market.specs.declared.row.Row.{Row}
 use Rattle.market.specs.Rows.{blank, blank_row}
-use Rattle.book.specs.declared.report.Written.{Written}
-use Rattle.book.specs.Reports.{Holds, RowsMore}
+use Rattle.book.specs.declared.told.Told.{Told}
+use Rattle.book.specs.Reports.{Holds, SameReport, Tells}
 
 pub blank_long : (rows : List Row) (n : ℕ) → rows ≡ blank n → length rows ≡ n
 blank_long rows n e = ap length e ∙ length-replicate n blank_row
@@ -18,27 +19,32 @@ over-blank told n k row e lt =
     ∙ set_at told blank_row (blank (n - length (told ++ row ∷ []))) row k (sym e)
     ∙ sym (append_assoc told (row ∷ []) (blank (n - length (told ++ row ∷ []))))
 
-module _ (count : ℕ) (rows told : List Row) (row : Row) where
-  pub told_inside : (over : Bool) → count < length rows → Holds (record { count = count; over = over }) rows told
-      → Holds (record { count = count + 1; over = over }) (set rows count row) (told ++ row ∷ [])
-  told_inside true lt h = omega (arith, length-append told (row ∷ []), length-set rows count row)
-  told_inside false lt h =
-      let long = length-append told (row ∷ []) in
-      let same = length-set rows count row in (
-        omega (arith, h.0),
-        omega (arith, h.0),
-        ap (λ xs. set xs count row) h.2 ∙ over-blank told (length rows) count row h.0 lt
-            ∙ ap (λ n. (told ++ row ∷ []) ++ blank (n - length (told ++ row ∷ []))) (sym same),
-      )
+-- a row is told at the count
+pub told_inside : (count : Option ℕ) (k : ℕ) (rows told : List Row) (row : Row) → count ≡ Some k → k < length rows
+    → MatchOption count (length rows < length told) (λ n. (n ≡ length told) × (length told ≤ length rows) × (rows ≡ told ++ blank (length rows - length told)))
+    → (k + 1 ≡ length (told ++ row ∷ [])) × (length (told ++ row ∷ []) ≤ length (set rows k row)) × (set rows k row ≡ (told ++ row ∷ []) ++ blank (length (set rows k row) - length (told ++ row ∷ [])))
+told_inside None k rows told row is lt h = cc
+told_inside (Some n) k rows told row is lt h =
+    let here : n ≡ k = cc in
+    let long = length-append told (row ∷ []) in
+    let same = length-set rows k row in (
+      omega (arith, h.0),
+      omega (arith, h.0),
+      ap (λ xs. set xs k row) h.2 ∙ over-blank told (length rows) k row (omega (arith, h.0)) lt
+          ∙ ap (λ n. (told ++ row ∷ []) ++ blank (n - length (told ++ row ∷ []))) (sym same),
+    )
 
-  pub told_outside : (over : Bool) → length rows ≤ count → Holds (record { count = count; over = over }) rows told
-      → Holds (record { count = count; over = true }) rows (told ++ row ∷ [])
-  told_outside true le h = omega (arith, length-append told (row ∷ []))
-  told_outside false le h = omega (arith, length-append told (row ∷ []), h.0)
+pub tells_none : (t : Told) → Tells t [] t
+tells_none t = record { report = record { same = refl; long = refl }; holds = λ told h. subst (Holds t) (sym (append-nil told)) h }
 
-pub more_none : (w : Written) (rows : List Row) → RowsMore w rows [] w rows
-more_none w rows = record { holds = λ told h. subst (Holds w rows) (sym (append-nil told)) h }
+pub wiped_same : (t t' : Told) → t'.rows.ghost_name ≡ t.rows.ghost_name → t'.rows.now ≡ blank (length t.rows.now) → SameReport t t'
+wiped_same t t' same wiped = record { same = same; long = blank_long t'.rows.now (length t.rows.now) wiped }
 
-pub more_then : (w w' w'' : Written) (rows rows' rows'' new newer : List Row) → RowsMore w rows new w' rows' → RowsMore w' rows' newer w'' rows'' → RowsMore w rows (new ++ newer) w'' rows''
-more_then w w' w'' rows rows' rows'' new newer a b =
-    record { holds = λ told h. subst (Holds w'' rows'') (append_assoc told new newer) (b.holds (told ++ new) (a.holds told h)) }
+pub same_then : (t t' t'' : Told) → SameReport t t' → SameReport t' t'' → SameReport t t''
+same_then t t' t'' a b = record { same = b.same ∙ a.same; long = b.long ∙ a.long }
+
+pub tells_then : (t t' t'' : Told) (new newer : List Row) → Tells t new t' → Tells t' newer t'' → Tells t (new ++ newer) t''
+tells_then t t' t'' new newer a b = record {
+  report = same_then t t' t'' a.report b.report;
+  holds = λ told h. subst (Holds t'') (append_assoc told new newer) (b.holds (told ++ new) (a.holds told h));
+}

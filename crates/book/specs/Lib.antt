@@ -1,7 +1,7 @@
 pub mod Bounds
 pub mod Best
+pub mod Facing
 pub mod Reports
 pub mod Matched
 pub mod Settling
 pub mod Closing
-pub mod Finding

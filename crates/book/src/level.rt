@@ -1,11 +1,14 @@
 // Levels, read off the resting orders.
-ghost use Rattle.std.specs.Prelude.{◌≡◌, ◌≤◌, length, vec_capacity};
+ghost use Rattle.std.specs.Prelude.{◌≡◌, length};
 ghost use Rattle.rules.specs.Domain.{total};
 ghost use Rattle.market.specs.Levels.{level, quantities};
-ghost use Rattle.book.specs.Best.{better_of, BestFound};
-ghost use Rattle.book.specs.Bounds.{Small};
+ghost use Rattle.book.specs.Best.{better_of, best_of};
 
-use crate::compare::{good, in_level, lot_size, opposite, stands};
+use crate::compare::{good, opposite, stands};
+use crate::lot::lot_size;
+use crate::orders::Orders;
+use crate::place::Place;
+use crate::scratch::Scratch;
 use market::book_id::BookId;
 use market::order::Order;
 use market::price::Price;
@@ -15,38 +18,31 @@ use market::side::Side;
 #[derive(Clone, Copy)]
 pub(crate) struct Level {
     pub total: u32,
+    // no caller asks for it; it stays, as the project wants a reading to promise the count as well
     pub count: usize,
 }
 
 // Reads one level: collects its quantities, in book order, sums them and counts them.
-pub(crate) fn read_level(
-    orders: &[Order],
-    book: BookId,
-    side: Side,
-    price: Price,
-    collected: &mut Vec<u32>,
-) -> Level
-    requires small { Small orders.now }
-    requires few { length orders.now ≤ 256 }
-    requires room { 256 ≤ vec_capacity collected.old }
-    ensures total { result.total ≡ total (quantities (level book side price orders.now)) }
-    ensures count { result.count ≡ length (quantities (level book side price orders.now)) }
-    ensures collected { collected.new.items ≡ quantities (level book side price orders.now) }
-    ensures capacity { vec_capacity collected.new ≡ vec_capacity collected.old }
+pub(crate) fn read_level(orders: &Orders, place: Place, scratch: &mut Scratch) -> Level
+    ensures total { result.total ≡ total (quantities (level place.book place.side place.price orders.now.inner.orders.items)) }
+    ensures count { result.count ≡ length (quantities (level place.book place.side place.price orders.now.inner.orders.items)) }
+    ensures collected { scratch.new.quantities.items ≡ quantities (level place.book place.side place.price orders.now.inner.orders.items) }
 {
-    collected.clear();
+    let orders = orders.as_slice();
+    scratch.quantities.clear();
     let mut total: u32 = 0;
+    // By index: one loop over the book's slice with an index is a form asked for.
     for i in 0..orders.len() {
         let order = orders[i];
-        if in_level(&order, book, side, price) {
+        if place.holds(&order) {
             let quantity = lot_size(order.lot);
             total += quantity;
-            collected.push_reserved(quantity);
+            scratch.quantities.push_reserved(quantity);
         }
     }
     Level {
         total,
-        count: collected.len(),
+        count: scratch.quantities.len(),
     }
 }
 
@@ -54,22 +50,20 @@ pub(crate) fn read_level(
 fn better_of(side: Side, best: Option<Price>, p: Price) -> Option<Price>
     ensures { result ≡ better_of side best p }
 {
-    match best {
-        None => Some(p),
-        Some(q) => { if good(side, q, p) { Some(q) } else { Some(p) } }
-    }
+    Some(match best {
+        Some(q) if good(side, q, p) => q,
+        _ => p,
+    })
 }
 
 // The best price to one who trades on `side`, where the other side has any order.
 pub(crate) fn best_price(orders: &[Order], book: BookId, side: Side) -> Option<Price>
-    ensures { BestFound book side orders.now result }
+    ensures { result ≡ best_of book side orders.now }
 {
     let facing = opposite(side);
-    let mut best: Option<Price> = None;
-    for order in orders {
-        if stands(order, book, facing) {
-            best = better_of(side, best, order.price);
-        }
-    }
-    best
+    orders
+        .iter()
+        .filter(|order| stands(order, book, facing))
+        .map(|order| order.price)
+        .fold(None, |best, price| better_of(side, best, price))
 }

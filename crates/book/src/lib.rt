@@ -3,11 +3,15 @@
 
 pub mod book;
 mod compare;
-mod find;
+mod fill;
 mod level;
+mod lot;
 mod matching;
-mod refill;
+mod orders;
+mod place;
 mod remainder;
-mod report;
 mod resting;
+mod rows;
+mod scratch;
+mod told;
 mod withdrawal;

@@ -4,24 +4,30 @@ ghost use Rattle.std.specs.Borrow.{sem, follows};
 ghost use Rattle.std.specs.Vec.{with_item};
 ghost use Rattle.market.specs.declared.order.Order.{Order as OrderT};
 ghost use Rattle.market.specs.contracts.order.Order.{the_row as order_row};
-ghost use Rattle.market.specs.Levels.{in_level, level, quantities, reduced, still_open, after_fill};
+ghost use Rattle.market.specs.Levels.{quantities, reduced, still_open, after_fill};
 ghost use Rattle.market.specs.Lists.{Below};
+ghost use Rattle.market.specs.Matching.{facing};
 ghost use Rattle.market.specs.Orders.{quantity_of, less};
 ghost use Rattle.market.specs.Rows.{fill_rows};
 ghost use Rattle.book.specs.contracts.resting.Resting.{the_row};
-ghost use Rattle.book.specs.Reports.{RowsMore};
+ghost use Rattle.book.specs.Facing.{faces};
+ghost use Rattle.book.specs.Reports.{Tells};
 
-use crate::compare::{in_level, less_lot, lot_size};
-use crate::report::{Fill, Written, trade_row};
-use market::book_id::BookId;
+use crate::fill::Fill;
+use crate::lot::{lot_size, sized_lot};
+use crate::rows::trade_row;
+use crate::told::Told;
 use market::order::Order;
-use market::price::Price;
-use market::row::Row;
-use market::side::Side;
 
 #[derive(Drop)]
 pub(crate) struct Resting {
     pub orders: Vec<Order>,
+}
+
+fn still_open(order: &Order) -> bool
+    ensures { result ≡ still_open order.now }
+{
+    lot_size(order.lot) > 0
 }
 
 impl Resting {
@@ -42,70 +48,37 @@ impl Resting {
         ensures capacity { vec_capacity self.new.orders ≡ vec_capacity self.old.orders }
     {
         let order = self.lend(i);
-        order.lot = less_lot(order.lot, taken);
+        order.lot = sized_lot(order.lot, lot_size(order.lot) - taken);
     }
 
     // Takes its share from each order of a level, and writes a row for each share that is not 0.
-    fn take_shares(
-        &mut self,
-        book: BookId,
-        side: Side,
-        price: Price,
-        shares: &[u32],
-        fill: Fill,
-        report: &mut [Row],
-        written: &mut Written,
-    )
-        requires { Below shares.now (quantities (level book side price self.old.orders.items)) }
-        ensures orders { self.new.orders.items ≡ reduced (in_level book side price) self.old.orders.items shares.now }
-        ensures rows { RowsMore written.old report.old (fill_rows fill.number fill.taker (level book side price self.old.orders.items) shares.now) written.new report.new }
+    fn take_shares(&mut self, fill: Fill, shares: &[u32], told: &mut Told<'_>)
+        requires { Below shares.now (quantities (facing fill.taker fill.price self.old.orders.items)) }
+        ensures orders { self.new.orders.items ≡ reduced (faces fill.taker fill.price) self.old.orders.items shares.now }
+        ensures rows { Tells told.old (fill_rows fill.number fill.taker.number (facing fill.taker fill.price self.old.orders.items) shares.now) told.new }
         ensures capacity { vec_capacity self.new.orders ≡ vec_capacity self.old.orders }
     {
-        let mut j: usize = 0;
+        let place = fill.place();
+        let mut left = shares.iter();
+        // By index: the form asked for lends an order by its index.
         for i in 0..self.orders.len() {
             let order = self.orders[i];
-            if in_level(&order, book, side, price) {
-                let taken = shares[j];
-                j += 1;
-                written.push_some(report, trade_row(fill, &order, taken));
+            if place.holds(&order) {
+                let taken = *left.next().unwrap();
+                told.push_some(trade_row(fill, &order, taken));
                 self.reduce(i, taken);
             }
         }
     }
 
-    // Takes out the orders that have nothing open.
-    fn drop_filled(&mut self)
-        ensures orders { self.new.orders.items ≡ filter still_open self.old.orders.items }
+    // One fill of a level, by the shares that its orders have in it: the orders with nothing open then leave.
+    pub(crate) fn trade(&mut self, fill: Fill, shares: &[u32], told: &mut Told<'_>)
+        requires { Below shares.now (quantities (facing fill.taker fill.price self.old.orders.items)) }
+        ensures orders { self.new.orders.items ≡ after_fill (faces fill.taker fill.price) self.old.orders.items shares.now }
+        ensures rows { Tells told.old (fill_rows fill.number fill.taker.number (facing fill.taker fill.price self.old.orders.items) shares.now) told.new }
         ensures capacity { vec_capacity self.new.orders ≡ vec_capacity self.old.orders }
     {
-        let mut k: usize = 0;
-        for i in 0..self.orders.len() {
-            let order = self.orders[i];
-            if lot_size(order.lot) > 0 {
-                self.orders[k] = order;
-                k += 1;
-            }
-        }
-        self.orders.truncate(k);
-    }
-
-    // One fill of a level, by the shares that its orders have in it.
-    pub(crate) fn fill_level(
-        &mut self,
-        book: BookId,
-        side: Side,
-        price: Price,
-        shares: &[u32],
-        fill: Fill,
-        report: &mut [Row],
-        written: &mut Written,
-    )
-        requires { Below shares.now (quantities (level book side price self.old.orders.items)) }
-        ensures orders { self.new.orders.items ≡ after_fill (in_level book side price) self.old.orders.items shares.now }
-        ensures rows { RowsMore written.old report.old (fill_rows fill.number fill.taker (level book side price self.old.orders.items) shares.now) written.new report.new }
-        ensures capacity { vec_capacity self.new.orders ≡ vec_capacity self.old.orders }
-    {
-        self.take_shares(book, side, price, shares, fill, report, written);
-        self.drop_filled();
+        self.take_shares(fill, shares, told);
+        self.orders.retain(still_open);
     }
 }

@@ -9,6 +9,7 @@ use std::test::Fail;
 // How many bytes are read at once.
 const STEP: usize = 3;
 
+// The input stays whole beside its place, since the log tells of it from its start.
 #[derive(Drop)]
 struct Memory {
     input: Vec<u8>,

@@ -1,21 +1,19 @@
 // Calls with a report of no row and of one row.
 use line::gateway::Gateway;
-use market::refusal::Refusal;
+use market::refusal::{Refusal, RefusalCode};
 use market::row::{Row, RowKind};
 use rules::price_time::PriceTime;
 use std::test::Fail;
 
-fn number(answer: Result<(u32, u32), Refusal>) -> u32 {
-    match answer {
-        Ok(_) => 0,
-        Err(refusal) => refusal.code().number,
-    }
+// What a call answers: its two numbers, or the refusal's number.
+fn told(answer: Result<(u32, u32), Refusal>) -> Result<(u32, u32), u32> {
+    answer.map_err(|refusal| RefusalCode::from(refusal).number)
 }
 
 // A venue in Continuous with a sell of two contracts at 5 and one at 6.
 fn opened(rt: &HostRuntime) -> Result<Gateway<PriceTime>, Fail> {
-    match Gateway::build(rt.alloc(), PriceTime, b"F 1 1 9")? {
-        Err(_) => Err(Fail::new("the build line is refused")),
+    match Gateway::build(rt.alloc(), PriceTime, b"F 1 1 9") {
+        Err(_) => Err(Fail::new("no venue is built")),
         Ok(opening) => {
             let mut gateway = opening.gateway;
             let mut report = [Row::blank(); 0];
@@ -31,10 +29,13 @@ fn opened(rt: &HostRuntime) -> Result<Gateway<PriceTime>, Fail> {
 fn no_row(rt: HostRuntime) -> Result<(), Fail> {
     let mut gateway = opened(&rt)?;
     let mut report = [Row::blank(); 0];
-    assert_eq!(rt; number(gateway.call(b"E 9 1 B 1 5 D", &mut report)), 15);
-    assert_eq!(rt; number(gateway.call(b"C 7 1", &mut report)), 15);
-    assert_eq!(rt; number(gateway.call(b"P X", &mut report)), 15);
-    assert_eq!(rt; number(gateway.call(b"E 9 1 B 1 4 D", &mut report)), 0);
+    assert_eq!(rt; told(gateway.call(b"E 9 1 B 1 5 D", &mut report)), Err(15));
+    assert_eq!(rt; told(gateway.call(b"C 7 1", &mut report)), Err(15));
+    assert_eq!(rt; told(gateway.call(b"P X", &mut report)), Err(15));
+    assert_eq!(rt;
+        told(gateway.call(b"E 9 1 B 1 4 D", &mut report)),
+        Ok((3, 0))
+    );
     Ok(())
 }
 
@@ -42,15 +43,18 @@ fn no_row(rt: HostRuntime) -> Result<(), Fail> {
 fn one_row(rt: HostRuntime) -> Result<(), Fail> {
     let mut gateway = opened(&rt)?;
     let mut report = [Row::blank(); 1];
-    assert_eq!(rt; number(gateway.call(b"E 9 1 B 3 6 D", &mut report)), 15);
-    assert_eq!(rt; report[0].kind.number(), RowKind::Blank.number());
-    assert_eq!(rt; number(gateway.call(b"E 9 1 B 3 5 I", &mut report)), 15);
-    assert_eq!(rt; number(gateway.call(b"E 9 1 B 2 5 I", &mut report)), 0);
-    assert_eq!(rt; report[0].kind.number(), RowKind::Trade.number());
+    assert_eq!(rt; told(gateway.call(b"E 9 1 B 3 6 D", &mut report)), Err(15));
+    assert_eq!(rt; report[0].kind, RowKind::Blank);
+    assert_eq!(rt; told(gateway.call(b"E 9 1 B 3 5 I", &mut report)), Err(15));
+    assert_eq!(rt;
+        told(gateway.call(b"E 9 1 B 2 5 I", &mut report)),
+        Ok((3, 2))
+    );
+    assert_eq!(rt; report[0].kind, RowKind::Trade);
     assert_eq!(rt; report[0].quantity, 2);
     assert_eq!(rt; report[0].buyer, 3);
     assert_eq!(rt; report[0].seller, 1);
-    assert_eq!(rt; number(gateway.call(b"C 8 2", &mut report)), 0);
-    assert_eq!(rt; report[0].kind.number(), RowKind::Cancellation.number());
+    assert_eq!(rt; told(gateway.call(b"C 8 2", &mut report)), Ok((2, 1)));
+    assert_eq!(rt; report[0].kind, RowKind::Cancellation);
     Ok(())
 }

@@ -1,4 +1,3 @@
-pub mod Appends
 pub mod Newlines
 pub mod Feeds
 pub mod Standing

@@ -1,9 +1,11 @@
 -- How lines go on from one block to the next.
-use Rattle.std.proofs.Common.{◌≡◌, ℕ, zero, suc, ◌+◌, ◌-◌, ◌<◌, ◌≤◌, min, Bool, true, false, cond, eqb, ltb, ◌⊎◌, List, [], ◌∷◌, ◌++◌, length, get_or, take, drop, sym, refl, ap, ◌∙◌, inl, inr, arith}
-use Rattle.std.proofs.lemmas.List.{append_assoc, append-nil, take_all, take_more, at_drop_more, at_drop_all}
+use Rattle.std.proofs.Common.{◌≡◌, ℕ, zero, suc, ◌+◌, ◌-◌, ◌<◌, ◌≤◌, min, Bool, true, false, cond, eqb, ltb, ◌⊎◌, List, [], ◌∷◌, ◌++◌, length, take, Some, None, ◌==◌, sym, refl, ap, ◌∙◌, inl, inr, arith}
+use Rattle.std.proofs.lemmas.List.{append_assoc, append-nil, take_all}
+use Rattle.std.proofs.lemmas.List.Elements.{All-nil, All-cons}
+use Rattle.std.proofs.lemmas.List.Recursion.{is_position_or_len}
 use Rattle.std.proofs.lemmas.Bool.{cases_lt}
 use Rattle.std.proofs.lemmas.Bool.Decides.{nat_tests}
-use Rattle.std.specs.List.{flat_map, AllByRecursion}
+use Rattle.std.specs.List.{position, position_or_len, flat_map, All}
 use Rattle.console.specs.Lines.{closed_after, open_after, closed_lines, open_line, has_newline, before_newline, Parted}
 
 -- ---- fronts
@@ -12,9 +14,6 @@ pub take-onto : (k : ℕ) (xs ys : List ℕ) → length xs ≤ k → take k (xs 
 take-onto k [] ys h = ap (λ n. take n ys) (omega arith)
 take-onto zero (x ∷ xs) ys h = absurd (omega arith)
 take-onto (suc k) (x ∷ xs) ys h = ap (λ l. x ∷ l) (take-onto k xs ys (omega arith)) ∙ ap (λ n. x ∷ (xs ++ take n ys)) (omega arith)
-
-pub push_more : (v xs : List ℕ) (i : ℕ) {u w : List ℕ} → i < length xs → u ≡ v ++ take i xs → w ≡ u ++ (get_or xs i 0 ∷ []) → w ≡ v ++ take (i + 1) xs
-push_more v xs i h p q = q ∙ ap (λ t. t ++ (get_or xs i 0 ∷ [])) p ∙ append_assoc v (take i xs) (get_or xs i 0 ∷ []) ∙ ap (λ t. v ++ t) (sym (take_more xs i 0 h))
 
 -- as much as there is room for
 pub take_room : (k n : ℕ) (xs ys : List ℕ) → length xs ≤ k → n ≡ min (length ys) (k - length xs) → xs ++ take n ys ≡ take k (xs ++ ys)
@@ -75,35 +74,32 @@ pub take_found : (xs : List ℕ) → has_newline xs ≡ true → take (suc (leng
 take_found [] h = grind (arith, nat_tests)
 take_found (b ∷ xs) h = let e = take_found xs in grind (arith, nat_tests)
 
--- the part of a block that a cut adds, and how much of the block it uses
-module _ (xs : List ℕ) (n : ℕ) (e : n ≡ length (before_newline xs)) where
-  pub part_before : take (n - 0) xs ≡ before_newline xs
-  part_before = ap (λ m. take m xs) (omega arith) ∙ take_before xs
+-- where the first newline is found
+before_at : (xs : List ℕ) → length (before_newline xs) ≡ position_or_len (λ b. b == 10) xs
+before_at xs = is_position_or_len (λ ys. length (before_newline ys)) (λ b. b == 10) refl (λ b ys. grind (arith, nat_tests)) xs
 
-  pub less_found : ltb n (length xs) ≡ has_newline xs
-  less_found = ap (λ m. ltb m (length xs)) e ∙ sym (found_less xs)
+newline_at : (xs : List ℕ) → position (λ b. b == 10) xs ≡ cond (has_newline xs) (Some (length (before_newline xs))) None
+newline_at xs =
+    (λ i. cond (ltb (sym (before_at xs) i) (length xs)) (Some (sym (before_at xs) i)) None)
+    ∙ ap (λ t. cond t (Some (length (before_newline xs))) None) (sym (found_less xs))
 
-  pub used_is : {u : ℕ} → u ≡ n + cond (ltb n (length xs)) 1 0 → u ≡ length (before_newline xs) + cond (has_newline xs) 1 0
-  used_is p = p ∙ ap (λ t. n + cond t 1 0) less_found ∙ ap (λ m. m + cond (has_newline xs) 1 0) e
+pub found_at : (xs : List ℕ) (n : ℕ) → position (λ b. b == 10) xs ≡ Some n → (has_newline xs ≡ true) × (n ≡ length (before_newline xs))
+found_at xs n e = go (has_newline xs) refl (sym (newline_at xs) ∙ e)
+  where
+    go : (t : Bool) → has_newline xs ≡ t → cond t (Some (length (before_newline xs))) None ≡ Some n → (has_newline xs ≡ true) × (n ≡ length (before_newline xs))
+    go true h e = (h, cc)
+    go false h e = cc
 
--- a cut uses no more than the block, and some of a block that is not empty
+pub none_at : (xs : List ℕ) → position (λ b. b == 10) xs ≡ None → has_newline xs ≡ false
+none_at xs e = go (has_newline xs) refl (sym (newline_at xs) ∙ e)
+  where
+    go : (t : Bool) → has_newline xs ≡ t → cond t (Some (length (before_newline xs))) None ≡ None → has_newline xs ≡ false
+    go true h e = cc
+    go false h e = h
+
+-- a cut uses no more than the block
 pub used_le : (xs : List ℕ) → length (before_newline xs) + cond (has_newline xs) 1 0 ≤ length xs
 used_le xs = let e = found_less xs in let h = before_le xs in grind (arith, nat_tests)
-
-pub used_some : (xs : List ℕ) → 0 < length xs → 0 < length (before_newline xs) + cond (has_newline xs) 1 0
-used_some [] h = absurd (omega arith)
-used_some (x ∷ xs) h = grind (arith, nat_tests)
-
--- what is left from an index on
-module _ (xs : List ℕ) (i d : ℕ) where
-  pub length_found : i < length xs → get_or xs i d ≡ 10 → length (before_newline (drop i xs)) ≡ 0
-  length_found h e = ap length (at_drop_more before_newline xs i d h) ∙ grind (arith, nat_tests)
-
-  pub length_more : i < length xs → (get_or xs i d ≡ 10 → ⊥) → length (before_newline (drop i xs)) ≡ suc (length (before_newline (drop (i + 1) xs)))
-  length_more h e = ap length (at_drop_more before_newline xs i d h) ∙ grind (arith, nat_tests)
-
-  pub length_all : length xs ≤ i → length (before_newline (drop i xs)) ≡ 0
-  length_all h = ap length (at_drop_all before_newline xs i h)
 
 -- ---- every input is parted
 
@@ -125,12 +121,12 @@ plain_push (x ∷ xs) b h e = let f = plain_push xs b in grind (arith, nat_tests
 abbrev Plain : List ℕ → Type 0
 Plain l = has_newline l ≡ false
 
-lines_plain_after : (part xs : List ℕ) → Plain part → AllByRecursion Plain (closed_after part xs)
-lines_plain_after part [] h = tt
+lines_plain_after : (part xs : List ℕ) → Plain part → All Plain (closed_after part xs)
+lines_plain_after part [] h = All-nil Plain
 lines_plain_after part (b ∷ xs) h = byte (eqb b 10) refl (lines_plain_after [] xs refl) (λ e. lines_plain_after (part ++ (b ∷ [])) xs (plain_push part b h e))
   where
-    byte : (t : Bool) → eqb b 10 ≡ t → AllByRecursion Plain (closed_after [] xs) → (eqb b 10 ≡ false → AllByRecursion Plain (closed_after (part ++ (b ∷ [])) xs)) → AllByRecursion Plain (cond t (part ∷ closed_after [] xs) (closed_after (part ++ (b ∷ [])) xs))
-    byte true e here there = (h, here)
+    byte : (t : Bool) → eqb b 10 ≡ t → All Plain (closed_after [] xs) → (eqb b 10 ≡ false → All Plain (closed_after (part ++ (b ∷ [])) xs)) → All Plain (cond t (part ∷ closed_after [] xs) (closed_after (part ++ (b ∷ [])) xs))
+    byte true e here there = All-cons Plain part (closed_after [] xs) h here
     byte false e here there = there e
 
 part_plain_after : (part xs : List ℕ) → Plain part → Plain (open_after part xs)

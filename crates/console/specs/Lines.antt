@@ -1,6 +1,6 @@
 -- The lines of an input: a newline, byte 10, closes a line.
 use Rattle.std.specs.Prelude.{◌≡◌, ℕ, Bool, true, false, cond, List, [], ◌∷◌, ◌++◌, ◌==◌}
-use Rattle.std.specs.List.{flat_map, AllByRecursion}
+use Rattle.std.specs.List.{flat_map, All}
 
 -- the lines that are closed in these bytes, where `part` of a line stands before them
 abbrev pub closed_after : List ℕ → List ℕ → List (List ℕ)
@@ -33,7 +33,7 @@ before_newline (b ∷ bs) = cond (b == 10) [] (b ∷ before_newline bs)
 -- the lines, each with its newline, and then the open part are the input, and no newline stands inside any of them
 pub record Parted (input : List ℕ) (lines : List (List ℕ)) (part : List ℕ) : Type 0 where
   pub whole : input ≡ flat_map (λ l. l ++ (10 ∷ [])) lines ++ part
-  pub lines_plain : AllByRecursion (λ l. has_newline l ≡ false) lines
+  pub lines_plain : All (λ l. has_newline l ≡ false) lines
   pub part_plain : has_newline part ≡ false
 
 -- every input is parted into its closed lines and its open line

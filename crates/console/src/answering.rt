@@ -4,6 +4,7 @@ ghost use Rattle.gate.specs.Views.{view};
 ghost use Rattle.console.specs.Answering.{Answered, BuildAnswered};
 
 use crate::text::{write_answer, write_report};
+use gate::build_error::BuildError;
 use line::gateway::Gateway;
 use market::row::Row;
 use rules::rule::AllocationRule;
@@ -20,15 +21,16 @@ where
     R: Drop,
     ensures { IfOk result (λ g. BuildAnswered R.AllocationRule.shares rule line.now out.old.items out.new.items g) }
 {
-    match Gateway::build(heap, rule, line)? {
-        Err(refusal) => {
-            write_answer(out, Err(refusal))?;
-            Ok(None)
-        }
+    match Gateway::build(heap, rule, line) {
         Ok(opening) => {
             write_answer(out, Ok(opening.answer))?;
             Ok(Some(opening.gateway))
         }
+        Err(BuildError::Refused(refusal)) => {
+            write_answer(out, Err(refusal))?;
+            Ok(None)
+        }
+        Err(BuildError::OutOfMemory) => Err(AllocError),
     }
 }
 

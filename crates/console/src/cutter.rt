@@ -7,13 +7,7 @@ mod calls;
 #[derive(Drop)]
 pub struct LineCutter {
     line: Vec<u8>,
+    // A flag, since the one buffer is held and lent alike whether its line is complete or still open.
     complete: bool,
     ghost room: { (vec_len line ≤ 1201) × (1201 ≤ vec_capacity line) },
-}
-
-// How many bytes of a block were used, and whether the last of them closed a line.
-#[derive(Clone, Copy)]
-pub struct Cut {
-    pub used: usize,
-    pub complete: bool,
 }

@@ -2,8 +2,10 @@
 #![tactic(auto)]
 
 mod answering;
+mod buffered;
 pub mod cutter;
 mod reader;
 pub mod serving;
+mod session;
 pub mod text;
 pub mod wire;

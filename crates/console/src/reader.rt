@@ -5,7 +5,7 @@ use crate::cutter::LineCutter;
 
 pub(crate) mod calls;
 
-// The bytes of the last block from `at` up to `end` are still to be cut.
+// The bytes of the last block from `at` up to `end` are still to be cut; they stand beside the block, which keeps its length for the next read.
 #[derive(Drop)]
 pub(crate) struct LineReader {
     cutter: LineCutter,

@@ -1,5 +1,5 @@
 -- From what the book does to what the venue does.
-use Rattle.std.proofs.Common.{◌≡◌, ℕ, ◌-◌, Bool, true, false, cond, not, ltb, List, ◌++◌, map, length, Some, None, Ok, Err, filter, Option, Result, sym, refl, ap, ◌∙◌, arith}
+use Rattle.std.proofs.Common.{◌≡◌, ℕ, ◌-◌, Bool, true, false, cond, not, ltb, List, ◌++◌, map, length, Some, None, Ok, Err, filter, Option, Result, sym, refl, ap, ◌∙◌, subst, arith}
 use Rattle.std.specs.Option.{option_map}
 use Rattle.market.specs.declared.acceptance.Acceptance.TheVariants.{Switched}
 use Rattle.market.specs.declared.call.Call.{Call}
@@ -22,8 +22,8 @@ abbrev pub with_book : View → BookState → View
 with_book v m = record { product = v.product; phase = v.phase; bands = v.bands; book = m }
 
 -- a condition of the table holds
-pub refused_by : (shares : List ℕ → ℕ → List ℕ) (v : View) (room : ℕ) (c : Call) (e : Refusal) (answer : Result (ℕ × ℕ) Refusal) (rows : List Row) → fault v c ≡ Some e → answer ≡ Err e → rows ≡ blank room → Follows (Does shares v c) v room answer rows v
-refused_by shares v room c e answer rows f is wiped = record { ending = refused e; allowed = at_fault c e f; answered = is; reported = wiped; left = refl }
+pub refused_by : {shares : List ℕ → ℕ → List ℕ} {v : View} {room : ℕ} {c : Call} {e : Refusal} {answer : Result (ℕ × ℕ) Refusal} {rows : List Row} → fault v c ≡ Some e → answer ≡ Err e → rows ≡ blank room → Follows (Does shares v c) v room answer rows v
+refused_by {c = c} {e = e} f is wiped = record { ending = refused e; allowed = at_fault c e f; answered = is; reported = wiped; left = refl }
 
 -- ---- a call of the book
 
@@ -47,9 +47,8 @@ alike : (v : View) (room : ℕ) (e : Ending BookState) → Alike v (close v.book
 alike v room (refused e) = record { answers = refl; rows = refl; after = refl }
 alike v room (done x) = alike_report v room x _ refl refl refl
 
-pub lifted : (Allowed : Ending BookState → Type 0) (Allowed' : Ending View → Type 0) (v : View) (room : ℕ) (answer : Result (ℕ × ℕ) Refusal) (rows : List Row) (m : BookState)
-    → ((e : Ending BookState) → Allowed e → Allowed' (at_book v e)) → Follows Allowed v.book room answer rows m → Follows Allowed' v room answer rows (with_book v m)
-lifted Allowed Allowed' v room answer rows m up f =
+pub lifted : {Allowed : Ending BookState → Type 0} {Allowed' : Ending View → Type 0} {v : View} {room : ℕ} {answer : Result (ℕ × ℕ) Refusal} {rows : List Row} {m : BookState} → ((e : Ending BookState) → Allowed e → Allowed' (at_book v e)) → Follows Allowed v.book room answer rows m → Follows Allowed' v room answer rows (with_book v m)
+lifted {v = v} {room = room} up f =
     let a = alike v room f.ending in
     record {
       ending = at_book v f.ending;
@@ -61,7 +60,7 @@ lifted Allowed Allowed' v room answer rows m up f =
 
 -- ---- a change of phase
 
-pub turned_from : (phase : Phase) (event : Event) (next : Phase) (leaving : Withdrawal) → turned phase event ≡ Some (next, leaving) → (next_phase phase event ≡ Some next) × (leaving ≡ withdraws event)
+turned_from : (phase : Phase) (event : Event) (next : Phase) (leaving : Withdrawal) → turned phase event ≡ Some (next, leaving) → (next_phase phase event ≡ Some next) × (leaving ≡ withdraws event)
 turned_from phase event next leaving = go (next_phase phase event)
   where
     go : (o : Option Phase) → option_map {U = Phase × Withdrawal} (λ n. (n, withdraws event)) o ≡ Some (next, leaving) → (o ≡ Some next) × (leaving ≡ withdraws event)
@@ -104,10 +103,13 @@ module _ (v : View) (phase : Phase) (room : ℕ) (x : Effect BookState) (answer 
   seen_done pair is true a' b' c' = absurd (let z : ◌≡◌ {A = ℕ} 0 1 = cc in omega arith)
   seen_done pair is false a' b' c' = (a', b', ap (with_book (in_phase v phase)) c')
 
-module _ (shares : List ℕ → ℕ → List ℕ) (v : View) (w : Event) (phase : Phase) (turn : next_phase v.phase w ≡ Some phase) (room : ℕ) (answer : Result (ℕ × ℕ) Refusal) (rows : List Row) (m : BookState)
-    (f : Follows (λ e. e ≡ withdrawn (withdraws w) v.book) v.book room answer rows m) where
+module _ (shares : List ℕ → ℕ → List ℕ) (v : View) (w : Event) (phase : Phase) (leaving : Withdrawal) (room : ℕ) (answer : Result (ℕ × ℕ) Refusal) (rows : List Row) (m : BookState)
+    (turns : turned v.phase w ≡ Some (phase, leaving)) (f : Follows (λ e. e ≡ withdrawn leaving v.book) v.book room answer rows m) where
   abbrev taken : Effect BookState
-  taken = effect_of (withdraws w) v.book
+  taken = effect_of leaving v.book
+
+  turn : (next_phase v.phase w ≡ Some phase) × (leaving ≡ withdraws w)
+  turn = turned_from v.phase w phase leaving turns
 
   a₀ : answer ≡ (report v.book room taken).answer
   a₀ = f.answered ∙ ap (λ (e : Ending BookState). (close v.book room e).answer) f.allowed
@@ -119,12 +121,12 @@ module _ (shares : List ℕ → ℕ → List ℕ) (v : View) (w : Event) (phase 
   c₀ = f.left ∙ ap (λ (e : Ending BookState). (close v.book room e).after) f.allowed
 
   follows_seen : (u : View) → (answer ≡ (report v room (raised phase taken v)).answer) × (rows ≡ (report v room (raised phase taken v)).rows) × (u ≡ (report v room (raised phase taken v)).after) → Follows (Does shares v (Switch w)) v room answer rows u
-  follows_seen u s = record { ending = at_book (in_phase v phase) (withdrawn (withdraws w) v.book); allowed = switches w phase turn; answered = s.0; reported = s.1; left = s.2 }
+  follows_seen u s = record { ending = at_book (in_phase v phase) (withdrawn leaving v.book); allowed = subst (λ (x : Withdrawal). Does shares v (Switch w) (at_book (in_phase v phase) (withdrawn x v.book))) (sym turn.1) (switches w phase turn.0); answered = s.0; reported = s.1; left = s.2 }
 
   -- the rows do not fit
-  pub switch_refused : (e : Refusal) → answer ≡ Err e → Follows (Does shares v (Switch w)) v room answer rows (with_book v m)
-  switch_refused e is = follows_seen (with_book v m) (seen_refused v phase room taken answer rows m e is (ltb room (length taken.rows)) a₀ b₀ c₀)
+  pub switch_refused : {e : Refusal} → answer ≡ Err e → {told : Result (ℕ × ℕ) Refusal} → told ≡ Err e → Follows (Does shares v (Switch w)) v room told rows (with_book v m)
+  switch_refused {e = e} is said = subst (λ (r : Result (ℕ × ℕ) Refusal). Follows (Does shares v (Switch w)) v room r rows (with_book v m)) (is ∙ sym said) (follows_seen (with_book v m) (seen_refused v phase room taken answer rows m e is (ltb room (length taken.rows)) a₀ b₀ c₀))
 
   -- the phase changes
-  pub switch_done : (pair : ℕ × ℕ) → answer ≡ Ok pair → Follows (Does shares v (Switch w)) v room answer rows (with_book (in_phase v phase) m)
-  switch_done pair is = follows_seen (with_book (in_phase v phase) m) (seen_done v phase room taken answer rows m pair is (ltb room (length taken.rows)) a₀ b₀ c₀)
+  pub switch_done : {pair : ℕ × ℕ} → answer ≡ Ok pair → Follows (Does shares v (Switch w)) v room (Ok pair) rows (with_book (in_phase v phase) m)
+  switch_done {pair = pair} is = subst (λ (r : Result (ℕ × ℕ) Refusal). Follows (Does shares v (Switch w)) v room r rows (with_book (in_phase v phase) m)) is (follows_seen (with_book (in_phase v phase) m) (seen_done v phase room taken answer rows m pair is (ltb room (length taken.rows)) a₀ b₀ c₀))

@@ -1,37 +1,38 @@
 -- Conditions tried one after another.
-use Rattle.std.proofs.Common.{◌≡◌, ℕ, ◌+◌, ◌<◌, ◌≤◌, Bool, true, false, eqb, List, ◌∷◌, length, get_or, drop, Some, None, Option, sym, ap, ◌∙◌, add_assoc, arith}
-use Rattle.std.proofs.lemmas.List.{at_drop_all, drop_more}
-use Rattle.std.proofs.lemmas.Bool.{cond-true, cond-false}
-use Rattle.std.proofs.lemmas.Bool.Decides.{nat_tests}
+use Rattle.std.proofs.Common.{◌≡◌, ℕ, ◌+◌, Bool, true, false, cond, not, List, [], ◌∷◌, Some, None, Option, sym, refl, ap, ◌∙◌, subst, add-zero, add_assoc}
+use Rattle.std.specs.List.{position, position_from}
+use Rattle.std.specs.Option.{option_map}
+use Rattle.std.proofs.lemmas.Iterator.Adapters.{position_from-zero}
 use Rattle.market.specs.declared.product.Band.{Band}
 use Rattle.market.specs.declared.refusal.Refusal.{Refusal}
 use Rattle.market.specs.declared.refusal.Refusal.TheVariants as refusal
-use Rattle.market.specs.Bands.{first_broken}
+use Rattle.market.specs.Bands.{first_broken, build_fault, BandsJudged}
 use Rattle.market.specs.Venues.{topmost}
+use Rattle.market.proofs.BandFaults.{bands_judged}
 
-pub not_zero : (n : ℕ) → (n ≡ 0 → ⊥) → eqb n 0 ≡ false
-not_zero n h = grind (arith, nat_tests)
+-- the refusal of the band at an index
+abbrev pub band_at : ℕ → ℕ → Refusal
+band_at place i = refusal.Band (place + i)
 
--- ---- bands
+module _ (test : Band → Bool) (place : ℕ) where
+  broken_from : (i : ℕ) (bands : List Band) → first_broken test bands (place + i) ≡ option_map (band_at place) (position_from (λ b. not (test b)) i bands)
+  broken_from i [] = refl
+  broken_from i (b ∷ bands) = go (test b) (ap (first_broken test bands) (add_assoc place i 1) ∙ broken_from (i + 1) bands)
+    where
+      go : (t : Bool) → first_broken test bands (place + i + 1) ≡ option_map (band_at place) (position_from (λ b. not (test b)) (i + 1) bands)
+          → cond t (first_broken test bands (place + i + 1)) (Some (refusal.Band (place + i))) ≡ option_map (band_at place) (cond (not t) (Some i) (position_from (λ b. not (test b)) (i + 1) bands))
+      go true h = h
+      go false h = refl
 
-module _ (test : Band → Bool) (bands : List Band) (place i : ℕ) where
-  pub broken_here : (d : Band) → i < length bands → test (get_or bands i d) ≡ false → first_broken test (drop i bands) (place + i) ≡ Some (refusal.Band (place + i))
-  broken_here d lt bad = ap (λ bs. first_broken test bs (place + i)) (drop_more bands i d lt) ∙ cond-false _ _ _ bad
+  -- the first broken band is at the first index that fails the test
+  pub broken_at : (bands : List Band) (index : Option ℕ) → index ≡ position (λ b. not (test b)) bands → first_broken test bands place ≡ option_map (band_at place) index
+  broken_at bands index is = ap (first_broken test bands) (sym (add-zero place)) ∙ broken_from 0 bands ∙ ap (option_map (band_at place)) (sym (is ∙ position_from-zero (λ b. not (test b)) bands))
 
-  pub broken_later : (d : Band) → i < length bands → test (get_or bands i d) ≡ true → first_broken test (drop (i + 1) bands) (place + (i + 1)) ≡ first_broken test (drop i bands) (place + i)
-  broken_later d lt ok = ap (first_broken test (drop (i + 1) bands)) (sym (add_assoc place i 1)) ∙ sym (ap (λ bs. first_broken test bs (place + i)) (drop_more bands i d lt) ∙ cond-true _ _ _ ok)
+-- the last condition of a table
+pub last_of : (fault : Option Refusal) → topmost (fault ∷ []) ≡ fault
+last_of None = refl
+last_of (Some e) = refl
 
-  pub broken_none : length bands ≤ i → first_broken test (drop i bands) (place + i) ≡ None
-  broken_none le = at_drop_all (λ bs. first_broken test bs (place + i)) bands i le
-
--- ---- a table
-
-module _ (faults : List (Option Refusal)) (i : ℕ) where
-  pub topmost-here : (d : Option Refusal) (e : Refusal) → i < length faults → get_or faults i d ≡ Some e → topmost (drop i faults) ≡ Some e
-  topmost-here d e lt is = ap topmost (drop_more faults i d lt) ∙ ap (λ f. topmost (f ∷ drop (i + 1) faults)) is
-
-  pub topmost_later : (d : Option Refusal) → i < length faults → get_or faults i d ≡ None → topmost (drop (i + 1) faults) ≡ topmost (drop i faults)
-  topmost_later d lt is = sym (ap topmost (drop_more faults i d lt) ∙ ap (λ f. topmost (f ∷ drop (i + 1) faults)) is)
-
-  pub topmost_none : length faults ≤ i → topmost (drop i faults) ≡ None
-  topmost_none le = at_drop_all topmost faults i le
+-- what a verdict on bands says
+pub judged : (bands : List Band) (fault : Option Refusal) → build_fault bands ≡ fault → BandsJudged bands fault
+judged bands fault is = subst (BandsJudged bands) is (bands_judged bands)

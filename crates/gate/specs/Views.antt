@@ -6,18 +6,22 @@ use Rattle.market.specs.declared.refusal.Refusal.{Refusal}
 use Rattle.market.specs.Bands.{build_fault}
 use Rattle.market.specs.Venues.{View, fresh}
 use Rattle.book.specs.Closing.{book_state}
+use Rattle.gate.specs.declared.build_error.BuildError.{BuildError}
+use Rattle.gate.specs.declared.build_error.BuildError.TheVariants.{Refused, OutOfMemory}
 use Rattle.gate.specs.declared.venue.Venue.{Venue}
 
 -- a venue by its product, phase, bands and book
 abbrev pub view : {R : Type 0} → Venue R → View
 view v = record { product = v.product; phase = v.trading.phase; bands = vec_items v.trading.bands; book = book_state v.book }
 
--- a venue is built with these bands and this rule, or refused since a band is broken
-abbrev pub BuiltWith : {R : Type 0} → Product → List Band → R → Result (Venue R) Refusal → Type 0
+-- a venue is built with these bands and this rule, or refused since a band is broken, or memory is wanting though no band is
+abbrev pub BuiltWith : {R : Type 0} → Product → List Band → R → Result (Venue R) BuildError → Type 0
 BuiltWith product bands rule (Ok v) = (build_fault bands ≡ None) × (view v ≡ fresh product bands) × (v.rule ≡ rule)
-BuiltWith product bands rule (Err e) = build_fault bands ≡ Some e
+BuiltWith product bands rule (Err (Refused e)) = build_fault bands ≡ Some e
+BuiltWith product bands rule (Err OutOfMemory) = build_fault bands ≡ None
 
--- why no venue was built
-abbrev pub refusal_of : {R : Type 0} → Result (Venue R) Refusal → Option Refusal
+-- the refusal for which no venue was built, if it was for one
+abbrev pub refusal_of : {R : Type 0} → Result (Venue R) BuildError → Option Refusal
 refusal_of (Ok v) = None
-refusal_of (Err e) = Some e
+refusal_of (Err (Refused e)) = Some e
+refusal_of (Err OutOfMemory) = None

@@ -1,100 +1,48 @@
 // The conditions of the table of refusals.
-ghost use Rattle.std.specs.Prelude.{◌≡◌, ◌+◌, ◌<◌, ◌≤◌, length};
-ghost use Rattle.market.specs.Bands.{first_broken, build_fault, BandsJudged};
-ghost use Rattle.market.specs.Venues.{between, unless, topmost, known, within_band};
-ghost use Rattle.gate.specs.Conditions.{passes};
+ghost use Rattle.std.specs.Prelude.{◌≡◌, Bool, not, ◌+◌, ◌^◌, ◌<◌, ◌≤◌, length, Some};
+ghost use Rattle.std.specs.Fn.{FnReturnsAt};
+ghost use Rattle.market.specs.declared.product.Band.{Band as ABand};
+ghost use Rattle.market.specs.Bands.{first_broken, build_fault};
+ghost use Rattle.market.specs.Venues.{unless, within_band};
+ghost use Rattle.gate.specs.Conditions.{Judges};
 
 use market::price::Price;
 use market::product::Band;
 use market::refusal::Refusal;
 
-// A number from low to high.
-pub(crate) fn between(low: u32, high: u32, n: u32) -> bool
-    ensures { result ≡ between low high n }
-{
-    low <= n && n <= high
-}
-
 // Refused unless the test holds.
-pub(crate) fn unless(test: bool, refusal: Refusal) -> Option<Refusal>
-    ensures { result ≡ unless test refusal }
+pub(crate) fn unless(test: bool, refusal: Refusal) -> Result<(), Refusal>
+    ensures { Judges (unless test refusal) result }
 {
-    if test { None } else { Some(refusal) }
+    if test { Ok(()) } else { Err(refusal) }
 }
 
-// The first of a table's conditions that holds, from the top down.
-pub(crate) fn topmost(faults: &[Option<Refusal>]) -> Option<Refusal>
-    ensures { result ≡ topmost faults.now }
+// The price is neither below the band nor above it.
+pub(crate) fn within_band(band: Band, price: Price) -> bool
+    ensures { result ≡ within_band (Some band) price }
 {
-    for fault in faults {
-        if let Some(refusal) = fault {
-            return Some(*refusal);
-        }
-    }
-    None
+    (i64::from(band.low)..=i64::from(band.high)).contains(&i64::from(price.0))
 }
 
-pub(crate) fn known(band: Option<Band>) -> bool
-    ensures { result ≡ known band }
+// The first band that is broken is refused; the first of all has its field at that place.
+fn first_broken<F: Fn(&Band) -> bool>(bands: &[Band], place: u32, broken: F) -> Result<(), Refusal>
+    requires fits { place + length bands.now < 2 ^ 32 }
+    requires callable { F.IsAlwaysCallable broken }
+    ensures { (p : ABand → Bool) → ((b : ABand) (t : Bool) → FnReturnsAt F.Fn broken b t → t ≡ not (p b)) → Judges (first_broken p bands.now place) result }
 {
-    match band {
-        None => false,
-        Some(_) => true,
+    match bands.iter().position(broken) {
+        None => Ok(()),
+        Some(i) => Err(Refusal::Band(place + i as u32)),
     }
 }
 
-pub(crate) fn within_band(band: Option<Band>, price: Price) -> bool
-    ensures { result ≡ within_band band price }
-{
-    match band {
-        None => false,
-        Some(band) => i64::from(band.low) <= i64::from(price.0)
-            && i64::from(price.0) <= i64::from(band.high),
-    }
-}
-
-// What a band is tested for.
-#[derive(Clone, Copy)]
-pub(crate) enum BandTest {
-    Low,
-    High,
-    Order,
-}
-
-fn passes(band: &Band, test: BandTest) -> bool
-    ensures { result ≡ passes test band.now }
-{
-    match test {
-        BandTest::Low => 1 <= band.low,
-        BandTest::High => band.high <= 999_999,
-        BandTest::Order => band.low <= band.high,
-    }
-}
-
-// The first band that fails a test; the first of them has its field at that place.
-fn first_broken(bands: &[Band], test: BandTest, place: u32) -> Option<Refusal>
-    requires few { length bands.now ≤ 64 }
-    requires low { place ≤ 100 }
-    ensures { result ≡ first_broken (passes test) bands.now place }
-{
-    for (i, band) in bands.iter().enumerate() {
-        if !passes(band, test) {
-            return Some(Refusal::Band(place + i as u32));
-        }
-    }
-    None
-}
-
-// What is refused of a build line's bands.
-pub(crate) fn build_fault(bands: &[Band]) -> Option<Refusal>
+// Whether a build line's bands are sound, and if not, why.
+pub(crate) fn judge(bands: &[Band]) -> Result<(), Refusal>
     requires { length bands.now ≤ 64 }
-    ensures value { result ≡ build_fault bands.now }
-    ensures judged { BandsJudged bands.now result }
+    ensures { Judges (build_fault bands.now) result }
 {
     let highs = 2 + bands.len() as u32;
-    topmost(&[
-        first_broken(bands, BandTest::Low, 2),
-        first_broken(bands, BandTest::High, highs),
-        first_broken(bands, BandTest::Order, 2),
-    ])
+    first_broken(bands, 2, |band| band.low < 1)?;
+    first_broken(bands, highs, |band| band.high > 999_999)?;
+    first_broken(bands, 2, |band| band.low > band.high)
 }

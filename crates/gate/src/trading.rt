@@ -17,20 +17,14 @@ impl Trading {
     pub(crate) fn open(&self) -> bool
         ensures { result ≡ trading self.now.phase }
     {
-        match self.phase {
-            Phase::Continuous => true,
-            Phase::PreOpen | Phase::Halted | Phase::Closed => false,
-        }
+        matches!(self.phase, Phase::Continuous)
     }
 
     // Orders may be cancelled.
     pub(crate) fn serving(&self) -> bool
         ensures { result ≡ serving self.now.phase }
     {
-        match self.phase {
-            Phase::PreOpen | Phase::Continuous | Phase::Halted => true,
-            Phase::Closed => false,
-        }
+        !matches!(self.phase, Phase::Closed)
     }
 
     // The phase that an event turns this one into, and what it takes out of the book; none where the event is refused.
@@ -51,14 +45,7 @@ impl Trading {
     pub(crate) fn band(&self, instrument: u32) -> Option<Band>
         ensures { result ≡ band_of self.now.bands.items instrument }
     {
-        if instrument == 0 {
-            return None;
-        }
-        let i = instrument as usize - 1;
-        if i < self.bands.len() {
-            Some(self.bands[i])
-        } else {
-            None
-        }
+        let i = instrument.checked_sub(1)?;
+        self.bands.get(i as usize).copied()
     }
 }

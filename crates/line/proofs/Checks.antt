@@ -53,7 +53,7 @@ fault_elsewhere v (Cancel p n) = cancel_elsewhere (serving v.phase) (between 1 9
 fault_elsewhere v (Switch w) = switch_elsewhere (next_phase v.phase w)
 fault_elsewhere v (Amend p n q r) = refl
 fault_elsewhere v (Quote p i q r k t) = refl
-fault_elsewhere v (Define p k legs) = refl
+fault_elsewhere v (Define p legs) = refl
 
 -- ---- what the book refuses
 

@@ -1,5 +1,5 @@
 -- More than 1,200 bytes of a line get its verdict.
-use Rattle.std.proofs.Common.{◌≡◌, ℕ, ◌<◌, min, List, length, take, Err, sym, ap, ◌∙◌, ⊎_elim, arith, length-take}
+use Rattle.std.proofs.Common.{◌≡◌, ℕ, ◌<◌, List, length, take, Err, sym, ap, ◌∙◌, ⊎_elim, arith, length-take}
 use Rattle.std.specs.List.{prefix_len}
 use Rattle.std.proofs.lemmas.List.{take_all, take-take}
 use Rattle.std.proofs.lemmas.List.Sums.{prefix_len-le-length}
@@ -9,9 +9,6 @@ use Rattle.line.specs.Bytes.{allowed, clean}
 use Rattle.line.specs.Kinds.{Form}
 use Rattle.line.specs.Verdicts.{read_line}
 use Rattle.line.proofs.Openings.{stopped}
-
-pub take_min : (n : ℕ) (xs : List ℕ) → take (min (length xs) n) xs ≡ take n xs
-take_min n xs = ⊎_elim (λ h. let e : min (length xs) n ≡ n = omega arith in ap (λ k. take k xs) e) (λ h. let e : min (length xs) n ≡ length xs = omega arith in ap (λ k. take k xs) e ∙ take_all (length xs) xs (omega arith) ∙ sym (take_all n xs h)) (cases_lt n (length xs))
 
 pub same_verdict : {X : Type 0} (form : List (List ℕ) → Form X) (line : List ℕ) (most : ℕ) → 1200 < most → read_line form (take most line) ≡ read_line form line
 same_verdict form line most more =

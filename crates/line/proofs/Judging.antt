@@ -1,13 +1,13 @@
 -- What the verdict on a line says, byte by byte and field by field.
-use Rattle.std.proofs.Common.{◌≡◌, ℕ, zero, suc, ◌+◌, ◌<◌, ◌≤◌, Bool, true, false, cond, ltb, List, [], ◌∷◌, length, get_or, take, Some, None, Option, Result, sym, refl, ap, ◌∙◌, subst, add-zero, zero-add, one-add, arith, length-take}
-use Rattle.std.specs.List.{prefix_len}
+use Rattle.std.proofs.Common.{◌≡◌, ℕ, zero, suc, ◌+◌, ◌<◌, ◌≤◌, Bool, true, false, cond, ltb, List, [], ◌∷◌, length, take, Some, None, Option, Result, sym, refl, ap, ◌∙◌, subst, add-zero, zero-add, arith, length-take}
 use Rattle.std.proofs.lemmas.List.{get_or-take}
-use Rattle.std.proofs.lemmas.List.Sums.{prefix_len-le-length}
+use Rattle.std.proofs.lemmas.List.Sums.{prefix_len-le-length, prefix_len_passes, prefix_len_stops}
 use Rattle.std.proofs.lemmas.Bool.{cond_both, ltb-true, ltb-false}
 use Rattle.market.specs.declared.refusal.Refusal.{Refusal}
 use Rattle.line.specs.Bytes.{fields_of, allowed, clean}
 use Rattle.line.specs.Kinds.{Kind, fits, misfit, Form, answer}
-use Rattle.line.specs.Verdicts.{read_line, as_asked, FirstMisfit, Clean, BadByte, Judged, bad_byte, bad_field, sound}
+use Rattle.line.specs.Verdicts.{read_line, as_asked, FirstMisfit, Clean, BadByte, Judged, bad_byte, bad_field, sound, Read}
+use Rattle.line.proofs.Partings.{parted}
 
 -- what the place of the first misfit says, counted from n
 abbrev Placed : List Kind → List (List ℕ) → ℕ → Option ℕ → Type 0
@@ -31,24 +31,6 @@ placed (k ∷ ks) (f ∷ fs) n = go (fits k f) refl (placed ks fs (n + 1))
     go true e h = rw e (one_on k ks f fs n (misfit ks fs (n + 1)) e h)
     go false e h = rw e (at_first (k ∷ ks) (f ∷ fs) n e)
 
--- each element of the longest front that passes, and the one after it
-front : (p : ℕ → Bool) (xs : List ℕ) (j : ℕ) → j < prefix_len p xs → p (get_or xs j 0) ≡ true
-front p [] j l = absurd (omega arith)
-front p (x ∷ xs) j l = go (p x) refl j l (front p xs)
-  where
-    go : (t : Bool) → p x ≡ t → (j : ℕ) → j < cond (p x) (1 + prefix_len p xs) 0 → ((i : ℕ) → i < prefix_len p xs → p (get_or xs i 0) ≡ true) → p (get_or (x ∷ xs) j 0) ≡ true
-    go true e zero l h = e
-    go true e (suc j) l h = h j (let m : suc j < 1 + prefix_len p xs = rw e at l in omega arith)
-    go false e j l h = absurd (let m : j < 0 = rw e at l in omega arith)
-
-stop : (p : ℕ → Bool) (xs : List ℕ) → prefix_len p xs < length xs → p (get_or xs (prefix_len p xs) 0) ≡ false
-stop p [] l = absurd (omega arith)
-stop p (x ∷ xs) l = go (p x) refl l (stop p xs)
-  where
-    go : (t : Bool) → p x ≡ t → cond (p x) (1 + prefix_len p xs) 0 < suc (length xs) → (prefix_len p xs < length xs → p (get_or xs (prefix_len p xs) 0) ≡ false) → p (get_or (x ∷ xs) (cond (p x) (1 + prefix_len p xs) 0) 0) ≡ false
-    go true e l h = let m : 1 + prefix_len p xs < suc (length xs) = rw e at l in rw (e, one-add) (h (omega arith))
-    go false e l h = rw e e
-
 at_fault : (line : List ℕ) → clean line < length line → BadByte line (clean line)
 at_fault line l =
     let head = take 1200 line in
@@ -57,8 +39,8 @@ at_fault line l =
     record {
       inside = l;
       limit = omega arith;
-      before = λ j m. sym (ap allowed (get_or-take 1200 line j 0 (omega arith))) ∙ front allowed head j m;
-      here = λ m. sym (ap allowed (get_or-take 1200 line (clean line) 0 m)) ∙ stop allowed head (omega arith);
+      before = λ j m. sym (ap allowed (get_or-take 1200 line j 0 (omega arith))) ∙ prefix_len_passes allowed head j 0 m;
+      here = λ m. sym (ap allowed (get_or-take 1200 line (clean line) 0 m)) ∙ prefix_len_stops allowed head 0 (omega arith);
     }
 
 no_fault : (line : List ℕ) → length line ≤ clean line → Clean line
@@ -68,7 +50,7 @@ no_fault line l =
     let most = prefix_len-le-length allowed head in
     record {
       short = omega arith;
-      bytes = λ j m. sym (ap allowed (get_or-take 1200 line j 0 (omega arith))) ∙ front allowed head j (omega arith);
+      bytes = λ j m. sym (ap allowed (get_or-take 1200 line j 0 (omega arith))) ∙ prefix_len_passes allowed head j 0 (omega arith);
     }
 
 module _ {X : Type 0} (form : List (List ℕ) → Form X) (line : List ℕ) where
@@ -82,5 +64,5 @@ module _ {X : Type 0} (form : List (List ℕ) → Form X) (line : List ℕ) wher
       (λ e. bad_byte (clean line) (at_fault line (ltb-true _ _ e)))
       (λ e. from_place (misfit (form (fields_of line)).kinds (fields_of line) 0) (no_fault line (ltb-false _ _ e)) (placed (form (fields_of line)).kinds (fields_of line) 0))
 
-  pub as_read : (r : Result X Refusal) → r ≡ read_line form line → Judged form line r
-  as_read r e = subst (Judged form line) (sym e) judged
+  pub as_read : (r : Result X Refusal) → r ≡ read_line form line → Read form line r
+  as_read r e = record { value = e; judged = subst (Judged form line) (sym e) judged; parted = parted line }

@@ -1,12 +1,10 @@
 pub mod Decimals
 pub mod Splits
 pub mod Fillings
-pub mod Elements
-pub mod Openings
 pub mod Partings
 pub mod Judging
+pub mod Openings
 pub mod Places
 pub mod Clips
-pub mod Counts
 pub mod Sessions
 pub mod Checks

@@ -14,27 +14,23 @@ abbrev pub product_letters : List ℕ
 product_letters = codes "FO"
 
 -- the product of a letter
+abbrev pub product_by : ℕ → Product
+product_by b = cond (b == (letter "F")) Futures Options
+
+-- the product of a field
 abbrev pub product_of : List ℕ → Product
-product_of f = cond (code f == (letter "F")) Futures Options
+product_of f = product_by (code f)
 
--- a band with its low
-abbrev pub with_low : Band → List ℕ → Band
-with_low b f = record { low = decimal f; high = b.high }
+-- the band of a low and a field with its high
+abbrev pub band_of : ℕ → List ℕ → Band
+band_of low f = record { low = low; high = decimal f }
 
--- a band with its high
-abbrev pub with_high : Band → List ℕ → Band
-with_high b f = record { low = b.low; high = decimal f }
-
--- a band that is not there
-abbrev pub no_band : Band
-no_band = record { low = 0; high = 0 }
-
--- n bands from n lows and then n highs, in an array of 64
+-- n bands from n lows and then n highs
 abbrev pub bands_of : ℕ → List (List ℕ) → List Band
-bands_of n fs = from_runs 64 no_band with_low with_high n fs
+bands_of n fs = from_runs band_of n fs
 
 -- product, the number n of instruments, n lows, n highs
 abbrev pub build_form : List (List ℕ) → Form BuildLine
 build_form fs =
     says (letter_among product_letters ∷ number_within 1 64 ∷ two_runs (decimal (field_at 1 fs)) plain_number plain_number)
-    (record { product = product_of (field_at 0 fs); count = decimal (field_at 1 fs); bands = bands_of (decimal (field_at 1 fs)) (others (others fs)) })
+    (record { product = product_of (field_at 0 fs); bands = record { items = bands_of (decimal (field_at 1 fs)) (others (others fs)) } })

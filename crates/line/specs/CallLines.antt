@@ -1,5 +1,5 @@
 -- The lines of the calls: which fields follow the opening letter, and what they say.
-use Rattle.std.specs.Prelude.{ℕ, cond, List, [], ◌∷◌, pos, codes, ◌==◌}
+use Rattle.std.specs.Prelude.{ℕ, cond, List, [], ◌∷◌, codes, ◌==◌}
 use Rattle.market.specs.declared.call.Call.{Call}
 use Rattle.market.specs.declared.call.Call.TheVariants.{Enter, Amend, Cancel, Quote, Define, Switch}
 use Rattle.market.specs.declared.call.Duration.{Duration}
@@ -20,44 +20,48 @@ abbrev pub side_letters : List ℕ
 side_letters = codes "BS"
 
 -- the side of a letter
+abbrev pub side_by : ℕ → Side
+side_by b = cond (b == (letter "B")) Buy Sell
+
+-- the side of a field
 abbrev pub side_of : List ℕ → Side
-side_of f = cond (code f == (letter "B")) Buy Sell
+side_of f = side_by (code f)
 
 -- for the day, immediate, whole or not at all
 abbrev pub duration_letters : List ℕ
 duration_letters = codes "DIF"
 
 -- the duration of a letter
+abbrev pub duration_by : ℕ → Duration
+duration_by b = cond (b == (letter "D")) Day (cond (b == (letter "I")) Immediate FillOrKill)
+
+-- the duration of a field
 abbrev pub duration_of : List ℕ → Duration
-duration_of f = cond (code f == (letter "D")) Day (cond (code f == (letter "I")) Immediate FillOrKill)
+duration_of f = duration_by (code f)
 
 -- open, halt, resume, close
 abbrev pub event_letters : List ℕ
 event_letters = codes "OHRX"
 
 -- the event of a letter
+abbrev pub event_by : ℕ → Event
+event_by b = cond (b == (letter "O")) Open (cond (b == (letter "H")) Halt (cond (b == (letter "R")) Resume Close))
+
+-- the event of a field
 abbrev pub event_of : List ℕ → Event
-event_of f = cond (code f == (letter "O")) Open (cond (code f == (letter "H")) Halt (cond (code f == (letter "R")) Resume Close))
+event_of f = event_by (code f)
 
 -- the price of a field
 abbrev pub price_of : List ℕ → Price
 price_of f = record { 0 = signed f }
 
--- a leg with its instrument
-abbrev pub with_instrument : Leg → List ℕ → Leg
-with_instrument l f = record { instrument = decimal f; ratio = l.ratio }
+-- the leg of an instrument and a field with its ratio
+abbrev pub leg_of : ℕ → List ℕ → Leg
+leg_of instrument f = record { instrument = instrument; ratio = signed f }
 
--- a leg with its ratio
-abbrev pub with_ratio : Leg → List ℕ → Leg
-with_ratio l f = record { instrument = l.instrument; ratio = signed f }
-
--- a leg that is not there
-abbrev pub no_leg : Leg
-no_leg = record { instrument = 0; ratio = pos 0 }
-
--- k legs from k instruments and then k ratios, in an array of 10
+-- k legs from k instruments and then k ratios
 abbrev pub legs_of : ℕ → List (List ℕ) → List Leg
-legs_of k fs = from_runs 10 no_leg with_instrument with_ratio k fs
+legs_of k fs = from_runs leg_of k fs
 
 -- E: participant, book, side, quantity, price, duration
 abbrev pub enter_form : List (List ℕ) → Form Call
@@ -87,7 +91,7 @@ quote_form fs =
 abbrev pub define_form : List (List ℕ) → Form Call
 define_form fs =
     says (plain_number ∷ number_within 2 10 ∷ two_runs (decimal (field_at 1 fs)) plain_number signed_number)
-    (Define (decimal (field_at 0 fs)) (decimal (field_at 1 fs)) (legs_of (decimal (field_at 1 fs)) (others (others fs))))
+    (Define (decimal (field_at 0 fs)) (record { items = legs_of (decimal (field_at 1 fs)) (others (others fs)) }))
 
 -- P: event
 abbrev pub switch_form : List (List ℕ) → Form Call

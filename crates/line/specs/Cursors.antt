@@ -1,9 +1,9 @@
 -- What is left of a line to a cursor, and what a step takes from it.
-use Rattle.std.specs.Prelude.{◌≡◌, ℕ, ◌+◌, ◌<◌, Bool, true, false, cond, not, List, [], length, drop, Some, None, Ok, Err, Option, Result, ◌==◌, nat_le}
+use Rattle.std.specs.Prelude.{◌≡◌, ℕ, ◌+◌, ◌<◌, ◌≤◌, Bool, true, false, cond, not, ◌||◌, List, [], length, drop, Some, None, Ok, Err, Option, Result, ◌==◌, nat_le}
 use Rattle.market.specs.declared.refusal.Refusal.{Refusal}
-use Rattle.market.specs.declared.refusal.Refusal.TheVariants.{Field as refused_field}
-use Rattle.line.specs.Bytes.{letter, fields_of, first, others}
-use Rattle.line.specs.Numbers.{unsigned, minus, decimal, lone_capital, code}
+use Rattle.market.specs.declared.refusal.Refusal.TheVariants.{Byte as refused_byte, Field as refused_field}
+use Rattle.line.specs.Bytes.{letter, clean, fields_of, first, others}
+use Rattle.line.specs.Numbers.{unsigned, minus, decimal, signed, lone_capital, code}
 use Rattle.line.specs.Kinds.{opens, none_left, Form, read_as}
 use Rattle.line.specs.declared.cursor.Cursor.{Cursor}
 use Rattle.line.specs.declared.cursor.Placed.{Placed}
@@ -22,7 +22,7 @@ Valued p bs (Some n) = (p bs ≡ true) × (n ≡ decimal bs) × (n < 1000000000)
 -- the bytes of a field, as they are read
 abbrev pub Reads : List ℕ → Field → Type 0
 Reads bs (Letter c) = (lone_capital bs ≡ true) × (c ≡ code bs)
-Reads bs (Number n m) = cond n ((minus bs ≡ true) × (m ≡ decimal (drop 1 bs)) × (m < 1000000000)) ((unsigned bs ≡ true) × (m ≡ decimal bs) × (m < 1000000000))
+Reads bs (Number n) = (unsigned bs || minus bs ≡ true) × (n ≡ signed bs)
 Reads bs (Bad r) = (r.now ≡ bs) × (lone_capital bs ≡ false) × (minus bs ≡ false) × (unsigned bs ≡ false)
 
 -- the fields that begin at a place of a line; none past its end
@@ -32,6 +32,11 @@ left line at = cond (nat_le at (length line)) (fields_of (drop at line)) []
 -- the fields left to a cursor
 abbrev pub rest : Cursor → List (List ℕ)
 rest c = left c.line.now c.at
+
+-- a cursor at the first field of a line of allowed bytes, or a refusal at the first byte that is not
+abbrev pub Begins : List ℕ → Result Cursor Refusal → Type 0
+Begins line (Ok c) = (length line ≤ clean line) × (rest c ≡ fields_of line) × (c.index ≡ 0)
+Begins line (Err e) = (clean line < length line) × (e ≡ refused_byte (clean line))
 
 -- the fields left to a cursor, read by a form
 abbrev pub read_rest : {X : Type 0} → (List (List ℕ) → Form X) → Cursor → Result X Refusal

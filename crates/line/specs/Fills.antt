@@ -1,9 +1,10 @@
 -- What a run of fields of one kind gives to the elements of a list.
 use Rattle.std.specs.Prelude.{◌≡◌, ℕ, List, ◌++◌, length, drop, replicate, Some, Ok, Err, Result}
+use Rattle.arrayvec.specs.ArrayVec.{ArrayVec}
 use Rattle.market.specs.declared.refusal.Refusal.{Refusal}
 use Rattle.market.specs.declared.refusal.Refusal.TheVariants.{Field}
-use Rattle.line.specs.Kinds.{Kind, misfit}
-use Rattle.line.specs.Runs.{each}
+use Rattle.line.specs.Kinds.{Kind, plain_number, misfit}
+use Rattle.line.specs.Runs.{each, from_runs}
 use Rattle.line.specs.Cursors.{rest}
 use Rattle.line.specs.declared.cursor.Cursor.{Cursor}
 
@@ -16,15 +17,15 @@ abbrev pub Failed : (List Kind → List Kind) → Cursor → Refusal → Type 0
 Failed before s e = (p : ℕ) × ((ks : List Kind) → misfit (before ks) (rest s) s.index ≡ Some p) × (e ≡ Field p)
 
 -- a field of a kind for each element, and on
-abbrev pub run : {X : Type 0} → Kind → List X → List Kind → List Kind
-run k xs ks = replicate (length xs) k ++ ks
+abbrev pub run : {A : Type 0} → Kind → List A → List Kind → List Kind
+run k ps ks = replicate (length ps) k ++ ks
 
--- a field of a kind gives each element its part
-abbrev pub Filled : {X : Type 0} → Kind → (X → List ℕ → X) → Cursor → List X → Result (Unit {0}) Refusal → Cursor → List X → Type 0
-Filled k f s xs (Ok u) t ys = Passed (run k xs) s t × (ys ≡ each f xs (rest s)) × (rest t ≡ drop (length xs) (rest s))
-Filled k f s xs (Err e) t ys = Failed (run k xs) s e
+-- each makes an element of a field of its own, all of one kind
+abbrev pub Filled : {A X : Type 0} → Kind → (A → List ℕ → X) → Cursor → List A → Result (ArrayVec X) Refusal → Cursor → Type 0
+Filled k f s ps (Ok xs) t = Passed (run k ps) s t × (xs.items ≡ each f ps (rest s)) × (rest t ≡ drop (length ps) (rest s))
+Filled k f s ps (Err e) t = Failed (run k ps) s e
 
--- a field of one kind for each element, and then a field of another for each
-abbrev pub FilledTwice : {X : Type 0} → Kind → (X → List ℕ → X) → Kind → (X → List ℕ → X) → Cursor → List X → Result (Unit {0}) Refusal → Cursor → List X → Type 0
-FilledTwice k f l g s xs (Ok u) t ys = Passed (λ ks. run k xs (run l xs ks)) s t × (ys ≡ each g (each f xs (rest s)) (drop (length xs) (rest s)))
-FilledTwice k f l g s xs (Err e) t ys = Failed (λ ks. run k xs (run l xs ks)) s e
+-- n plain numbers, and then a field of a kind for each of them, make n elements
+abbrev pub FilledTwice : {X : Type 0} → Kind → (ℕ → List ℕ → X) → ℕ → Cursor → Result (ArrayVec X) Refusal → Cursor → Type 0
+FilledTwice k f n s (Ok xs) t = Passed (λ ks. replicate n plain_number ++ (replicate n k ++ ks)) s t × (xs.items ≡ from_runs f n (rest s))
+FilledTwice k f n s (Err e) t = Failed (λ ks. replicate n plain_number ++ (replicate n k ++ ks)) s e

@@ -1,5 +1,5 @@
 -- What a gateway promises of the line that builds a venue, and of every line after it.
-use Rattle.std.specs.Prelude.{◌≡◌, ℕ, Bool, false, ◌&&◌, List, [], ◌∷◌, take, Some, None, Ok, Err, Option, Result, nat_le}
+use Rattle.std.specs.Prelude.{◌≡◌, ℕ, Bool, false, ◌&&◌, List, [], ◌∷◌, length, Some, None, Ok, Err, Option, Result, nat_le}
 use Rattle.market.specs.declared.acceptance.Acceptance.TheVariants.{Built}
 use Rattle.market.specs.declared.product.Band.{Band}
 use Rattle.market.specs.declared.refusal.Refusal.{Refusal}
@@ -9,6 +9,8 @@ use Rattle.market.specs.Bands.{build_fault}
 use Rattle.market.specs.Refusals.{refusal_code}
 use Rattle.market.specs.Sessions.{Turn, Reached, Sound}
 use Rattle.market.specs.Venues.{View, fresh}
+use Rattle.gate.specs.declared.build_error.BuildError.{BuildError}
+use Rattle.gate.specs.declared.build_error.BuildError.TheVariants.{Refused, OutOfMemory}
 use Rattle.gate.specs.Views.{view}
 use Rattle.line.specs.declared.bands.BuildLine.{BuildLine}
 use Rattle.line.specs.declared.gateway.Opening.{Opening}
@@ -18,31 +20,33 @@ use Rattle.line.specs.Verdicts.{line_call, build_line}
 
 -- the bands that a build line gives, one for each instrument
 abbrev pub bands_given : BuildLine → List Band
-bands_given b = take b.count b.bands
+bands_given b = b.bands.items
 
 -- why a build line is refused: by the line layer, or since a band is broken
 abbrev pub build_refusal : Result BuildLine Refusal → Option Refusal
 build_refusal (Ok b) = build_fault (bands_given b)
 build_refusal (Err e) = Some e
 
--- a venue is built as the fields of a build line say, under the rule that is given, or a band is broken
-abbrev pub OpensAs : {R : Type 0} → R → BuildLine → Result (Opening R) Refusal → Type 0
-OpensAs rule b (Ok o) = (build_fault (bands_given b) ≡ None) × (view o.gateway.venue ≡ fresh b.product (bands_given b)) × (o.answer ≡ acceptance_numbers (Built b.count)) × (o.gateway.venue.rule ≡ rule)
-OpensAs rule b (Err e) = build_fault (bands_given b) ≡ Some e
+-- a venue is built as the fields of a build line say, under the rule that is given, or a band is broken, or memory is wanting though no band is
+abbrev pub OpensAs : {R : Type 0} → R → BuildLine → Result (Opening R) BuildError → Type 0
+OpensAs rule b (Ok o) = (build_fault (bands_given b) ≡ None) × (view o.gateway.venue ≡ fresh b.product (bands_given b)) × (o.answer ≡ acceptance_numbers (Built (length (bands_given b)))) × (o.gateway.venue.rule ≡ rule)
+OpensAs rule b (Err (Refused e)) = build_fault (bands_given b) ≡ Some e
+OpensAs rule b (Err OutOfMemory) = build_fault (bands_given b) ≡ None
 
 -- a venue is just built as the line says; its answer has the number of instruments, and its session begins here
 pub record Opened (shares : List ℕ → ℕ → List ℕ) (line : List ℕ) (answer : ℕ × ℕ) (v : View) : Type 0 where
   pub request : BuildLine
   pub says : build_line line ≡ Ok request
   pub stands : v ≡ fresh request.product (bands_given request)
-  pub answers : answer ≡ acceptance_numbers (Built request.count)
+  pub answers : answer ≡ acceptance_numbers (Built (length (bands_given request)))
   pub reached : Reached line_call shares [] v
   pub sound : Sound line_call [] v
 
--- a build line opens a venue under the rule that it is given, or is refused
-abbrev pub Opens : {R : Type 0} → (R → List ℕ → ℕ → List ℕ) → R → List ℕ → Result (Opening R) Refusal → Type 0
+-- a build line opens a venue under the rule that it is given, or is refused, or memory is wanting though it is not
+abbrev pub Opens : {R : Type 0} → (R → List ℕ → ℕ → List ℕ) → R → List ℕ → Result (Opening R) BuildError → Type 0
 Opens shares rule line (Ok o) = (build_refusal (build_line line) ≡ None) × Opened (shares rule) line o.answer (view o.gateway.venue) × (o.gateway.venue.rule ≡ rule)
-Opens shares rule line (Err e) = build_refusal (build_line line) ≡ Some e
+Opens shares rule line (Err (Refused e)) = build_refusal (build_line line) ≡ Some e
+Opens shares rule line (Err OutOfMemory) = build_refusal (build_line line) ≡ None
 
 -- ---- answers
 

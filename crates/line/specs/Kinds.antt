@@ -1,5 +1,5 @@
 -- The kinds that fields should have, and the first field at fault.
-use Rattle.std.specs.Prelude.{ℕ, zero, suc, ◌+◌, Bool, true, false, cond, ◌&&◌, ◌||◌, List, [], ◌∷◌, Some, None, Ok, Err, Option, Result, ◌==◌, nat_le}
+use Rattle.std.specs.Prelude.{◌≡◌, ℕ, zero, suc, ◌+◌, Bool, true, false, cond, ◌&&◌, ◌||◌, List, [], ◌∷◌, Some, None, Ok, Err, Option, Result, ◌==◌, nat_le}
 use Rattle.market.specs.declared.refusal.Refusal.{Refusal}
 use Rattle.market.specs.declared.refusal.Refusal.TheVariants.{Field}
 use Rattle.line.specs.Bytes.{first, others}
@@ -20,6 +20,11 @@ pub data Kind : Type 0 where
 abbrev pub among : ℕ → List ℕ → Bool
 among b [] = false
 among b (c ∷ cs) = b == c || among b cs
+
+-- what a letter names, where letters name values
+abbrev pub Means : {X : Type 0} → List ℕ → (ℕ → X) → ℕ → Option X → Type 0
+Means letters by b None = among b letters ≡ false
+Means letters by b (Some x) = (among b letters ≡ true) × (x ≡ by b)
 
 -- a field is of a kind
 abbrev pub fits : Kind → List ℕ → Bool

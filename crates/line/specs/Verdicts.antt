@@ -1,6 +1,6 @@
 -- What a line is: a call or a build line, or a refusal with its place.
 use Rattle.std.specs.Prelude.{◌≡◌, ℕ, ◌+◌, ◌*◌, ◌<◌, ◌≤◌, Bool, true, false, cond, List, ◌∷◌, length, Some, None, Ok, Err, Option, Result, ◌==◌, nat_lt, slice_index}
-use Rattle.std.specs.List.{flat_map, AllByRecursion, slice_get}
+use Rattle.std.specs.List.{flat_map, All, slice_get}
 use Rattle.market.specs.Refusals.{refusal_code}
 use Rattle.market.specs.declared.call.Call.{Call}
 use Rattle.market.specs.declared.product.Product.{Product}
@@ -49,7 +49,7 @@ pub record BadByte (line : List ℕ) (p : ℕ) : Type 0 where
 -- each behind a space, the fields are the line behind a space, and no field has a space in it
 pub record Parted (line : List ℕ) (fields : List (List ℕ)) : Type 0 where
   pub whole : flat_map (λ f. letter " " ∷ f) fields ≡ letter " " ∷ line
-  pub plain : AllByRecursion (AllByRecursion (λ b. (b == (letter " ")) ≡ false)) fields
+  pub plain : All (All (λ b. (b == (letter " ")) ≡ false)) fields
 
 -- a kind and a field at one place: both there and fitting, or neither there
 abbrev pub agree : Option Kind → Option (List ℕ) → Bool
@@ -75,3 +75,9 @@ pub data Judged {X : Type 0} (form : List (List ℕ) → Form X) (line : List �
   bad_field : (i : ℕ) → Clean line → FirstMisfit (form (fields_of line)).kinds (fields_of line) i → Judged form line (Err (Field i))
   -- a clean line with every field as asked says what its fields say
   sound : Clean line → ((i : ℕ) → as_asked (form (fields_of line)).kinds (fields_of line) i ≡ true) → Judged form line (Ok (form (fields_of line)).value)
+
+-- a line is read by a form: what it is, what that says of its bytes and fields, and how its fields stand in it
+pub record Read {X : Type 0} (form : List (List ℕ) → Form X) (line : List ℕ) (r : Result X Refusal) : Type 0 where
+  pub value : r ≡ read_line form line
+  pub judged : Judged form line r
+  pub parted : Parted line (fields_of line)

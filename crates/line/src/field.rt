@@ -6,7 +6,7 @@ ghost use Rattle.line.specs.Cursors.{Valued, Reads};
 #[derive(Clone, Copy)]
 pub(crate) enum Field<'a> {
     Letter(char),
-    Number { negative: bool, magnitude: u32 },
+    Number(i32),
     Bad(&'a [u8]),
 }
 
@@ -29,16 +29,14 @@ fn all_digits(bytes: &[u8]) -> Option<u32>
 fn magnitude(bytes: &[u8]) -> Option<u32>
     ensures { Valued unsigned bytes.now result }
 {
-    let Some((first, rest)) = bytes.split_first() else {
-        return None;
-    };
+    let (first, rest) = bytes.split_first()?;
     if rest.len() > 8 || (*first == b'0' && !rest.is_empty()) {
         return None;
     }
     all_digits(bytes)
 }
 
-pub(crate) fn read<'a>(bytes: &'a [u8]) -> Field<'a>
+pub(crate) fn read(bytes: &[u8]) -> Field<'_>
     ensures { Reads bytes.now result }
 {
     let Some((first, rest)) = bytes.split_first() else {
@@ -46,10 +44,7 @@ pub(crate) fn read<'a>(bytes: &'a [u8]) -> Field<'a>
     };
     if *first == b'-' {
         return match magnitude(rest) {
-            Some(magnitude) if magnitude != 0 => Field::Number {
-                negative: true,
-                magnitude,
-            },
+            Some(n) if n != 0 => Field::Number(-(n as i32)),
             _ => Field::Bad(bytes),
         };
     }
@@ -57,10 +52,7 @@ pub(crate) fn read<'a>(bytes: &'a [u8]) -> Field<'a>
         return Field::Letter(char::from(*first));
     }
     match magnitude(bytes) {
-        Some(magnitude) => Field::Number {
-            negative: false,
-            magnitude,
-        },
+        Some(n) => Field::Number(n as i32),
         None => Field::Bad(bytes),
     }
 }

@@ -3,12 +3,15 @@
 
 mod bands;
 mod check;
+mod clean;
 mod clipping;
 mod cursor;
 mod field;
 pub mod gateway;
 mod legs;
+mod named;
 mod reader;
+mod runs;
 mod walk;
 
 pub use check::line_check;

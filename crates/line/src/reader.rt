@@ -1,17 +1,17 @@
 // Whole lines: the bytes first, then the fields.
-ghost use Rattle.std.specs.Prelude.{◌≡◌, ◌≤◌, length};
-ghost use Rattle.std.specs.List.{prefix_len};
-ghost use Rattle.line.specs.Bytes.{allowed, longest, clean, fields_of};
-ghost use Rattle.line.specs.CallLines.{call_form, enter_form, amend_form, cancel_form, quote_form, switch_form};
+ghost use Rattle.std.specs.Prelude.{◌≡◌, cond, Err};
+ghost use Rattle.market.specs.declared.refusal.Refusal.TheVariants.{Field};
+ghost use Rattle.line.specs.Kinds.{among};
+ghost use Rattle.line.specs.CallLines.{call_letters, form_of_letter, call_form, enter_form, amend_form, cancel_form, quote_form, switch_form};
 ghost use Rattle.line.specs.BuildLines.{build_form};
-ghost use Rattle.line.specs.Verdicts.{line_call, build_line, Judged, Parted, product_named};
+ghost use Rattle.line.specs.Verdicts.{build_line, Read, product_named};
 ghost use Rattle.line.specs.Cursors.{read_rest};
 
 use crate::bands::{BuildLine, read_build_fields};
-use crate::clipping::front;
 use crate::cursor::Cursor;
 use crate::legs::read_define;
 use market::call::Call;
+use market::phase::Event;
 use market::product::Product;
 use market::refusal::Refusal;
 
@@ -20,10 +20,10 @@ fn read_enter(fields: &mut Cursor<'_>) -> Result<Call, Refusal>
 {
     let participant = fields.number()?;
     let book = fields.number()?;
-    let side = fields.side()?;
+    let side = fields.named()?;
     let quantity = fields.number()?;
     let price = fields.price()?;
-    let duration = fields.duration()?;
+    let duration = fields.named()?;
     fields.end()?;
     Ok(Call::Enter {
         participant,
@@ -86,69 +86,38 @@ fn read_quote(fields: &mut Cursor<'_>) -> Result<Call, Refusal>
 fn read_switch(fields: &mut Cursor<'_>) -> Result<Call, Refusal>
     ensures { result ≡ read_rest switch_form fields.old }
 {
-    let event = fields.event()?;
+    let event: Event = fields.named()?;
     fields.end()?;
     Ok(Call::Switch { event })
 }
 
-fn is_allowed(b: u8) -> bool
-    ensures { result ≡ allowed b }
+// The fields after the letter that opens the line.
+fn read_fields(letter: char, fields: &mut Cursor<'_>) -> Result<Call, Refusal>
+    ensures { result ≡ cond (among letter call_letters) (read_rest (form_of_letter letter) fields.old) (Err (Field 0)) }
 {
-    matches!(b, b'0'..=b'9' | b'A'..=b'Z' | b'-' | b' ')
-}
-
-// How many bytes from the start are allowed.
-fn allowed_len(bytes: &[u8]) -> usize
-    ensures within { result ≤ length bytes.now }
-    ensures value { result ≡ prefix_len allowed bytes.now }
-{
-    for (i, b) in bytes.iter().enumerate() {
-        if !is_allowed(*b) {
-            return i;
-        }
-    }
-    bytes.len()
-}
-
-// How many bytes from the start are allowed, of the first 1,200.
-fn clean_len(line: &[u8]) -> usize
-    ensures within { result ≤ longest }
-    ensures value { result ≡ clean line.now }
-{
-    allowed_len(front(line, 1200))
-}
-
-pub(crate) fn read_call(line: &[u8]) -> Result<Call, Refusal>
-    ensures value { result ≡ line_call line.now }
-    ensures judged { Judged call_form line.now result }
-    ensures parted { Parted line.now (fields_of line.now) }
-{
-    let sound = clean_len(line);
-    if sound < line.len() {
-        return Err(Refusal::Byte(sound as u32));
-    }
-    let mut fields = Cursor::new(line);
-    match fields.letter()? {
-        'E' => read_enter(&mut fields),
-        'A' => read_amend(&mut fields),
-        'C' => read_cancel(&mut fields),
-        'Q' => read_quote(&mut fields),
-        'D' => read_define(&mut fields),
-        'P' => read_switch(&mut fields),
+    match letter {
+        'E' => read_enter(fields),
+        'A' => read_amend(fields),
+        'C' => read_cancel(fields),
+        'Q' => read_quote(fields),
+        'D' => read_define(fields),
+        'P' => read_switch(fields),
         _ => Err(Refusal::Field(0)),
     }
 }
 
-pub(crate) fn read_build(line: &[u8]) -> Result<BuildLine, Refusal>
-    ensures value { result ≡ build_line line.now }
-    ensures judged { Judged build_form line.now result }
-    ensures parted { Parted line.now (fields_of line.now) }
+pub(crate) fn read_call(line: &[u8]) -> Result<Call, Refusal>
+    ensures { Read call_form line.now result }
 {
-    let sound = clean_len(line);
-    if sound < line.len() {
-        return Err(Refusal::Byte(sound as u32));
-    }
-    let mut fields = Cursor::new(line);
+    let mut fields = Cursor::new(line)?;
+    let letter = fields.letter()?;
+    read_fields(letter, &mut fields)
+}
+
+pub(crate) fn read_build(line: &[u8]) -> Result<BuildLine, Refusal>
+    ensures { Read build_form line.now result }
+{
+    let mut fields = Cursor::new(line)?;
     read_build_fields(&mut fields)
 }
 
@@ -156,8 +125,5 @@ pub(crate) fn read_build(line: &[u8]) -> Result<BuildLine, Refusal>
 pub fn product_named(line: &[u8]) -> Option<Product>
     ensures { result ≡ product_named (build_line line.now) }
 {
-    match read_build(line) {
-        Ok(request) => Some(request.product),
-        Err(_) => None,
-    }
+    read_build(line).map(|request| request.product).ok()
 }

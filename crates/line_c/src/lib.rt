@@ -1,4 +1,4 @@
-// The check of a line, exported to programs in C.
+// The check of a line, exported to programs in C: a crate of its own, since it is linked as a static library.
 #![tactic(auto)]
 
 ghost use Rattle.std.specs.Prelude.{◌≡◌, is_ok, ◌==◌};

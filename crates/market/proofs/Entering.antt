@@ -1,7 +1,8 @@
 -- An order that arrives: what it has is what it trades, what is cancelled of it and what rests.
-use Rattle.std.proofs.Common.{◌≡◌, ℕ, ◌+◌, ◌<◌, ◌≤◌, Bool, true, false, cond, eqb, List, [], ◌∷◌, sym, refl, ap, inl, inr, arith}
-use Rattle.std.specs.List.{AllByRecursion}
-use Rattle.std.proofs.ByRecursion.{All-push, All-weaker}
+use Rattle.std.proofs.Common.{◌≡◌, ℕ, ◌+◌, ◌<◌, ◌≤◌, cond, eqb, List, [], ◌∷◌, inl, inr, arith}
+use Rattle.std.specs.List.{All}
+use Rattle.std.proofs.lemmas.List.Sums.{sum_by-append}
+use Rattle.std.proofs.lemmas.List.Elements.{All-push}
 use Rattle.std.proofs.lemmas.List.{length_push}
 use Rattle.std.proofs.lemmas.Bool.{cases_eq}
 use Rattle.std.proofs.lemmas.Bool.Decides.{nat_tests}
@@ -14,66 +15,55 @@ use Rattle.market.specs.Endings.{Ending}
 use Rattle.market.specs.Matching.{Match}
 use Rattle.market.specs.Orders.{quantity_of, sized, arriving}
 use Rattle.market.specs.Rows.{cancel_row}
-use Rattle.market.specs.Sessions.{is_trade, counted, resting, Entry}
+use Rattle.market.specs.Sessions.{resting, Entry}
 use Rattle.market.proofs.Cancelling.{Ended, cancel_gone, cancel_below}
 use Rattle.market.proofs.Crossing.{uncrossed_last}
 use Rattle.market.proofs.Keeping.{Used, Orderly, numbers_below, orderly_thins, one}
 use Rattle.market.proofs.Matches.{match_all, match_length, match_below, match_cancels_none, match_clear, match_own, match_other}
-use Rattle.market.proofs.Sums.{gone, gone-++, resting-++, resting_below, NumbersBelow}
+use Rattle.market.proofs.Sums.{gone, resting_below, NumbersBelow, one_below}
 
 -- the entry that an order of q gives
 abbrev pub entry : ℕ → ℕ → List Entry
 entry q n = record { number = n; quantity = q } ∷ []
 
-cond_same : (m n x : ℕ) → m ≡ n → cond (eqb m n) x 0 ≡ x
-cond_same m n x e = grind (arith, nat_tests)
-
-cond_other : (m n x : ℕ) → (n ≡ m → ⊥) → cond (eqb m n) x 0 ≡ 0
-cond_other m n x ne = grind (arith, nat_tests)
-
-cond_none : (b : Bool) → cond {A = ℕ} b 0 0 ≡ 0
-cond_none true = refl
-cond_none false = refl
-
 module _ (shares : List ℕ → ℕ → List ℕ) (laws : Laws shares) (m : BookState) (a : Arrival) (s : Orderly m) where
   thinner : {q : ℕ} {rows : List Row} {f q' : ℕ} {os : List Order} → Match shares (arriving a m.next) 1 q m.orders rows f q' os →
       Orderly (record { orders = os; next = m.next + 1 })
-  thinner {os = os} match = orderly_thins m os (m.next + 1) s (λ P lasts a'. match_all shares (arriving a m.next) P lasts match a') (match_length shares (arriving a m.next) match) (omega arith)
+  thinner {os = os} match = orderly_thins m os (m.next + 1) s (λ P lasts. match_all shares (arriving a m.next) P lasts match) (match_length shares (arriving a m.next) match) (omega arith)
 
   rows_below : {q : ℕ} {rows : List Row} {f q' : ℕ} {os : List Order} → Match shares (arriving a m.next) 1 q m.orders rows f q' os →
-      AllByRecursion (NumbersBelow (m.next + 1)) rows
+      All (NumbersBelow (m.next + 1)) rows
   rows_below match = match_below shares (arriving a m.next) (m.next + 1) (omega arith) match
-      (All-weaker (λ o. o.number < m.next) (λ o. o.number < m.next + 1) (λ o h. omega arith) m.orders (numbers_below m s))
+      (λ i o at. omega (arith, numbers_below m s i o at))
 
   balanced : {q : ℕ} {rows : List Row} {f q' : ℕ} {os : List Order} → Match shares (arriving a m.next) 1 q m.orders rows f q' os → (n : ℕ) →
       resting n m.orders + cond (eqb m.next n) q 0 ≡ gone n rows + resting n os + cond (eqb m.next n) q' 0
-  balanced {q} {rows} {q' = q'} {os} match n =
+  balanced {os = os} match n =
       let o : Order = arriving a m.next in
       let uncancelled = match_cancels_none shares o n match in
       elim (cases_eq n m.next) [
         | inl e ↦
-            let own = match_own shares o laws match s.bounded in
-            let traded : counted is_trade n rows ≡ counted is_trade m.next rows = ap (λ k. counted is_trade k rows) e in
+            let own = rw (← e) at (match_own shares o laws match s.bounded) in
             let none_before = resting_below m.next n (omega arith) m.orders (numbers_below m s) in
             let none_after = resting_below m.next n (omega arith) os (match_all shares o (λ x. x.number < m.next) (λ x k h. h) match (numbers_below m s)) in
-            omega (arith, cond_same m.next n q (sym e), cond_same m.next n q' (sym e))
-        | inr ne ↦ omega (arith, match_other shares o laws n ne match s.bounded, cond_other m.next n q ne, cond_other m.next n q' ne)
+            grind (arith, nat_tests)
+        | inr ne ↦ grind (arith, nat_tests, match_other shares o laws n ne match s.bounded)
       ]
 
   pub enters_keeps : (e : Ending BookState) → a.quantity.0 ≤ 10000 → Enters shares m a e → Ended m (entry a.quantity.0) e
   enters_keeps _ small (no_number h) = tt
   enters_keeps _ small (whole h match) = record {
     gives = one a.quantity.0;
-    balance = λ n k. omega (arith, balanced match n, cond_none (eqb m.next n));
+    balance = λ n k. grind (arith, nat_tests, balanced match n);
     below = rows_below match;
     orderly = thinner match;
   }
-  enters_keeps _ small (rests {rows} {q = q} {os} h day match some room) =
+  enters_keeps _ small (rests {q = q} {os} h day match some room) =
       let o : Order = sized (arriving a m.next) q in
       let t = thinner match in
       record {
         gives = one a.quantity.0;
-        balance = λ n k. omega (arith, balanced match n, resting-++ n os (o ∷ []));
+        balance = λ n k. omega (arith, balanced match n, sum_by-append {X = Order});
         below = rows_below match;
         orderly = record {
           started = t.started;
@@ -86,11 +76,11 @@ module _ (shares : List ℕ → ℕ → List ℕ) (laws : Laws shares) (m : Book
         };
       }
   enters_keeps _ small (no_room h day match some full) = tt
-  enters_keeps _ small (cut {rows} {q = q} {os} h immediate match some) =
+  enters_keeps _ small (cut {rows} {q = q} h immediate match some) =
       let o : Order = sized (arriving a m.next) q in
       record {
         gives = one a.quantity.0;
-        balance = λ n k. omega (arith, balanced match n, gone-++ n rows (cancel_row o ∷ []), cancel_gone n k o []);
+        balance = λ n k. omega (arith, balanced match n, sum_by-append {X = Row}, cancel_gone n k o []);
         below = All-push (NumbersBelow (m.next + 1)) rows (cancel_row o) (rows_below match) (cancel_below (m.next + 1) o (omega arith));
         orderly = thinner match;
       }
@@ -99,6 +89,6 @@ module _ (shares : List ℕ → ℕ → List ℕ) (laws : Laws shares) (m : Book
       record {
         gives = one a.quantity.0;
         balance = λ n k. omega (arith, cancel_gone n k o []);
-        below = (cancel_below (m.next + 1) o (omega arith), tt);
+        below = one_below (m.next + 1) (cancel_row o) (cancel_below (m.next + 1) o (omega arith));
         orderly = orderly_thins m m.orders (m.next + 1) s (λ P lasts a'. a') (omega arith) (omega arith);
       }

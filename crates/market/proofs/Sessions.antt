@@ -1,42 +1,24 @@
 -- The law over sessions, by induction over the turns, under any rule that keeps its laws.
-use Rattle.std.proofs.Common.{◌≡◌, ℕ, ◌+◌, ◌<◌, ◌≤◌, Bool, List, [], ◌∷◌, Result, sym, refl, subst, inl, inr, arith}
-use Rattle.std.specs.List.{AllByRecursion}
-use Rattle.std.proofs.ByRecursion.{All-weaker}
+use Rattle.std.proofs.Common.{◌≡◌, ℕ, zero, suc, ◌+◌, ◌<◌, ◌≤◌, List, [], ◌∷◌, Result, inl, inr, refl, arith}
+use Rattle.std.specs.List.{All}
+use Rattle.std.proofs.lemmas.List.Sums.{sum_by-cons}
+use Rattle.std.proofs.lemmas.List.Elements.{All-nil, All-cons}
 use Rattle.std.proofs.lemmas.Bool.{cases_eq}
 use Rattle.rules.specs.Domain.{Laws}
 use Rattle.market.specs.declared.call.Call.{Call}
 use Rattle.market.specs.declared.refusal.Refusal.{Refusal}
-use Rattle.market.specs.declared.row.RowKind.{RowKind}
-use Rattle.market.specs.Endings.{close, Follows}
-use Rattle.market.specs.Lists.{Any}
-use Rattle.market.specs.Sessions.{Turn, is_trade, is_cancellation, over, resting, entries_of, entries, Given, Entered, Entered.first, Entered.earlier, Reached, Reached.built, Reached.turn, AbsentOrGiven, Sound}
+use Rattle.market.specs.Endings.{Follows}
+use Rattle.market.specs.Orders.{quantity_of}
+use Rattle.market.specs.Sessions.{Apart, Turn, is_trade, is_cancellation, over, resting, entries, Given, Entered, Entered.first, Entered.earlier, Reached, Reached.built, Reached.turn, AbsentOrGiven, Sound}
 use Rattle.market.specs.Venues.{View, fresh, Takes}
 use Rattle.market.proofs.Keeping.{Used, Orderly, numbers_below, gives_later, gives_only, gives_others_none, gives_own, gives_newest, Keeps}
-use Rattle.market.proofs.Sums.{NumbersBelow, counted_below, resting_below}
+use Rattle.market.proofs.Sums.{NumbersBelow, NamedBelow, over_below, resting_below}
 use Rattle.market.proofs.Taking.{takes_keeps}
-
-any_weaker : {X : Type 0} (P Q : X → Type 0) → ((x : X) → P x → Q x) → (xs : List X) → Any P xs → Any Q xs
-any_weaker P Q f [] h = h
-any_weaker P Q f (x ∷ xs) (inl h) = inl (f x h)
-any_weaker P Q f (x ∷ xs) (inr h) = inr (any_weaker P Q f xs h)
-
--- all rows so far name numbers below n
-abbrev NamedBelow : {Message : Type 0} → ℕ → List (Turn Message) → Type 0
-NamedBelow n h = AllByRecursion (λ t. AllByRecursion (NumbersBelow n) t.rows) h
-
-named_later : {Message : Type 0} (m n : ℕ) → m ≤ n → (h : List (Turn Message)) → NamedBelow m h → NamedBelow n h
-named_later m n le h a =
-    All-weaker (λ t. AllByRecursion (NumbersBelow m) t.rows) (λ t. AllByRecursion (NumbersBelow n) t.rows)
-    (λ t b. All-weaker (NumbersBelow m) (NumbersBelow n) (λ row k. (omega (arith, k.0), omega (arith, k.1))) t.rows b) h a
-
-over_below : {Message : Type 0} (is : RowKind → Bool) (n : ℕ) (h : List (Turn Message)) → NamedBelow n h → over is n h ≡ 0
-over_below is n [] a = refl
-over_below is n (t ∷ h) a = omega (arith, counted_below is n n (omega arith) t.rows a.0, over_below is n h a.1)
 
 module _ {Message : Type 0} (reading : Message → Result Call Refusal) where
   entered-given : {h : List (Turn Message)} {n q : ℕ} → Entered reading h n q → Given reading h n
-  entered-given {n = n} {q} (first {t = t} any new) = inl (any_weaker (λ e. (e.number ≡ n) × (e.quantity ≡ q)) (λ e. e.number ≡ n) (λ e k. k.0) (entries reading t) any)
-  entered-given (earlier e) = inr (entered-given e)
+  entered-given (first {t = t} w new) = (0, t, omega arith, refl, (w.0, w.1, w.2, w.3, w.4.0))
+  entered-given (earlier e) = let w = entered-given e in (suc w.0, w.1, omega arith, w.3, w.4)
 
   -- what holds of a session, as it is proved from turn to turn
   record Standing (h : List (Turn Message)) (v : View) : Type 0 where
@@ -52,19 +34,12 @@ module _ {Message : Type 0} (reading : Message → Result Call Refusal) where
     conserved_more : (n q : ℕ) → Entered reading (t ∷ h) n q → q ≡ over is_trade n (t ∷ h) + over is_cancellation n (t ∷ h) + resting n v.book.orders
     conserved_more n q (first any new) =
         let own = gives_own n q k.gives any in
-        let e : n ≡ u.book.next = own.0 in
-        let quiet : NamedBelow n h = subst (λ m. NamedBelow m h) (sym e) s.named in
-        omega (
-          arith,
-          k.balance n (omega (arith, s.orderly.started)),
-          own.1,
-          over_below is_trade n h quiet,
-          over_below is_cancellation n h quiet,
-          resting_below u.book.next n (omega arith) u.book.orders (numbers_below u.book s.orderly),
-        )
+        let none_before = resting_below u.book.next n (omega (arith, own.0)) u.book.orders (numbers_below u.book s.orderly) in
+        let untraded = over_below u.book.next n (omega (arith, own.0)) is_trade h s.named in
+        let uncancelled = over_below u.book.next n (omega (arith, own.0)) is_cancellation h s.named in
+        omega (arith, sum_by-cons {X = Turn Message}, own, k.balance n (omega (arith, s.orderly.started)))
     conserved_more n q (earlier e) =
-        let range = s.no_other n (entered-given e) in
-        omega (arith, k.balance n range.0, gives_others_none n k.gives range.1, s.conserved n q e)
+        let range = s.no_other n (entered-given e) in omega (arith, sum_by-cons {X = Turn Message}, k.balance n range.0, gives_others_none n k.gives range.1, s.conserved n q e)
 
     numbered_more : (n : ℕ) → 1 ≤ n → n < v.book.next → (q : ℕ) × Entered reading (t ∷ h) n q
     numbered_more n low high = elim (gives_newest n k.gives high) [
@@ -73,15 +48,16 @@ module _ {Message : Type 0} (reading : Message → Result Call Refusal) where
     ]
 
     no_other_more : (n : ℕ) → Given reading (t ∷ h) n → (1 ≤ n) × (n < v.book.next)
-    no_other_more n (inl new) = let r = gives_only n k.gives new in (omega (arith, s.orderly.started, r.0), r.1)
-    no_other_more n (inr old) = let r = s.no_other n old in (r.0, omega (arith, r.1, gives_later k.gives))
+    no_other_more n (zero, _, at, is, new) = let r = gives_only n k.gives (rw (← is) at new) in (omega (arith, s.orderly.started, r.0), r.1)
+    no_other_more n (suc i, t', at, is, old) = let r = s.no_other n (i, t', omega arith, is, old) in (r.0, omega (arith, r.1, gives_later k.gives))
 
     standing_more : Standing (t ∷ h) v
     standing_more = record {
       conserved = conserved_more;
       numbered = numbered_more;
       no_other = no_other_more;
-      named = (k.below, named_later u.book.next v.book.next (gives_later k.gives) h s.named);
+      named = All-cons (λ x. All (NumbersBelow v.book.next) x.rows) t h k.below
+          (λ i x at j row at'. omega (arith, s.named i x at j row at', gives_later k.gives));
       orderly = k.orderly;
     }
 
@@ -94,50 +70,41 @@ module _ {Message : Type 0} (reading : Message → Result Call Refusal) where
     absent_or_given : (n : ℕ) → n < v.book.next → AbsentOrGiven reading h n
     absent_or_given n high = elim (cases_eq n 0) [
       | inl e ↦ inl e
-      | inr ne ↦ inr (given_used n (some n ne) high)
+      | inr ne ↦ inr (given_used n (omega arith) high)
     ]
-      where
-        some : (n : ℕ) → (n ≡ 0 → ⊥) → 1 ≤ n
-        some n ne = omega arith
 
     standing_sound : Sound reading h v
     standing_sound = record {
       conserved = s.conserved;
       numbered = s.numbered;
       no_other = s.no_other;
-      named = All-weaker (λ t. AllByRecursion (NumbersBelow v.book.next) t.rows) (λ t. AllByRecursion (λ row. AbsentOrGiven reading h row.buyer × AbsentOrGiven reading h row.seller) t.rows)
-          (λ t a. All-weaker (NumbersBelow v.book.next) (λ row. AbsentOrGiven reading h row.buyer × AbsentOrGiven reading h row.seller)
-          (λ row k. (absent_or_given row.buyer k.0, absent_or_given row.seller k.1)) t.rows a) h s.named;
-      rests_given = All-weaker (Used v.book.next) (λ o. Given reading h o.number) (λ o k. given_used o.number k.0 k.1) v.book.orders s.orderly.used;
+      named = λ i t at j row at'. let k = s.named i t at j row at' in (absent_or_given _ k.0, absent_or_given _ k.1);
+      rests_given = λ i o at. let k = s.orderly.used i o at in given_used _ k.0 k.1;
       uncrossed = s.orderly.uncrossed;
     }
 
   fresh-stands : (v : View) → v ≡ fresh v.product v.bands → Standing [] v
-  fresh-stands v e = subst (Standing []) (sym e) (record {
-    conserved = λ n q h. absurd (none_entered n q h);
+  fresh-stands v e = rw e (record {
+    conserved = λ n q h. absurd (let w = entered-given h in omega arith);
     numbered = λ n low high. absurd (omega arith);
-    no_other = λ n h. absurd h;
-    named = tt;
-    orderly = record { started = omega arith; used = tt; bounded = record { small = tt; few = omega arith }; uncrossed = tt };
+    no_other = λ n h. absurd (omega arith);
+    named = All-nil (λ x. All (NumbersBelow 1) x.rows);
+    orderly = record {
+      started = omega arith;
+      used = All-nil (Used 1);
+      bounded = record { small = All-nil (λ o. quantity_of o ≤ 10000); few = omega arith };
+      uncrossed = All-nil (λ x. All (Apart x) []);
+    };
   })
-    where
-      none_entered : (n q : ℕ) → Entered reading [] n q → ⊥
-      none_entered n q h = entered-given h
 
   module _ (shares : List ℕ → ℕ → List ℕ) (laws : Laws shares) where
     follows_keeps : (t : Turn Message) (u v : View) → Orderly u.book → Follows (Takes shares u (reading t.message)) u t.room t.answer t.rows v →
         Keeps u.book t.rows (entries reading t) v.book
-    follows_keeps t u v s f =
-        let k = takes_keeps shares laws u t.room (reading t.message) f.ending s f.allowed in
-        let k₁ : Keeps u.book t.rows (entries_of (reading t.message) (close u t.room f.ending).answer) (close u t.room f.ending).after.book =
-        subst (λ rows. Keeps u.book rows (entries_of (reading t.message) (close u t.room f.ending).answer) (close u t.room f.ending).after.book) (sym f.reported) k in
-        let k₂ : Keeps u.book t.rows (entries reading t) (close u t.room f.ending).after.book =
-        subst (λ answer. Keeps u.book t.rows (entries_of (reading t.message) answer) (close u t.room f.ending).after.book) (sym f.answered) k₁ in
-        subst (λ w. Keeps u.book t.rows (entries reading t) w.book) (sym f.left) k₂
+    follows_keeps t u v s f = rw (f.reported, f.answered, f.left) (takes_keeps shares laws u t.room (reading t.message) f.ending s f.allowed)
 
     stands : {h : List (Turn Message)} {v : View} → Reached reading shares h v → Standing h v
     stands {v = v} (built e) = fresh-stands v e
-    stands (turn {t} {h} {u} {v} r f) = let s = stands r in standing_more t h u v s (follows_keeps t u v s.orderly f)
+    stands (turn r f) = let s = stands r in standing_more _ _ _ _ s (follows_keeps _ _ _ s.orderly f)
 
     pub every_session : (h : List (Turn Message)) (v : View) → Reached reading shares h v → Sound reading h v
     every_session h v r = standing_sound h v (stands r)

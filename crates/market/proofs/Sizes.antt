@@ -3,7 +3,7 @@ use Rattle.std.proofs.Common.{◌≡◌, ℕ, refl}
 use Rattle.market.specs.declared.order.Lot.{Lot}
 use Rattle.market.specs.declared.order.Lot.TheVariants.{Outright, Combined}
 use Rattle.market.specs.declared.order.Order.{Order}
-use Rattle.market.specs.Orders.{lot_book, lot_size, sized_lot, quantity_of, sized, less}
+use Rattle.market.specs.Orders.{lot_book, lot_size, sized_lot, less}
 
 pub lot_size-sized : (l : Lot) (k : ℕ) → lot_size (sized_lot l k) ≡ k
 lot_size-sized (Outright i q) k = refl
@@ -12,12 +12,6 @@ lot_size-sized (Combined c q) k = refl
 pub lot_book-sized : (l : Lot) (k : ℕ) → lot_book (sized_lot l k) ≡ lot_book l
 lot_book-sized (Outright i q) k = refl
 lot_book-sized (Combined c q) k = refl
-
-pub quantity_sized : (o : Order) (k : ℕ) → quantity_of (sized o k) ≡ k
-quantity_sized o k = lot_size-sized o.lot k
-
-pub book_sized : (o : Order) (k : ℕ) → lot_book (sized o k).lot ≡ lot_book o.lot
-book_sized o k = lot_book-sized o.lot k
 
 -- what holds of an order holds of it after a trade
 abbrev pub Lasting : (Order → Type 0) → Type 0

@@ -1,37 +1,26 @@
 -- Whatever a message says, its call keeps the book orderly and loses nothing.
-use Rattle.std.proofs.Common.{◌≡◌, ℕ, ◌-◌, ◌≤◌, Bool, true, false, cond, ltb, leb, List, ◌∷◌, ◌++◌, length, None, Ok, Option, Result, refl, arith}
-use Rattle.std.proofs.lemmas.Bool.{and_parts, leb-true}
+use Rattle.std.proofs.Common.{◌≡◌, ℕ, ◌-◌, ◌≤◌, ltb, List, length, None, Ok, Result, arith}
+use Rattle.std.proofs.lemmas.Bool.Decides.{nat_tests}
+use Rattle.std.proofs.lemmas.Bool.{cond_both}
 use Rattle.rules.specs.Domain.{Laws}
 use Rattle.market.specs.declared.call.Call.{Call}
 use Rattle.market.specs.declared.call.Call.TheVariants.{Enter, Cancel, Switch}
 use Rattle.market.specs.declared.call.Duration.{Duration}
 use Rattle.market.specs.declared.price.Price.{Price}
 use Rattle.market.specs.declared.refusal.Refusal.{Refusal}
-use Rattle.market.specs.declared.refusal.Refusal.TheVariants as refusal
 use Rattle.market.specs.declared.side.Side.{Side}
 use Rattle.market.specs.Acceptances.{acceptance_numbers}
 use Rattle.market.specs.BookCalls.{BookState, withdrawn}
-use Rattle.market.specs.Endings.{Effect, Ending, refused, done, Outcome, refuse, report, close}
-use Rattle.market.specs.Rows.{blank}
+use Rattle.market.specs.Endings.{Ending, refused, done, Outcome, close}
 use Rattle.market.specs.Sessions.{entry_of, entries_of}
-use Rattle.market.specs.Venues.{View, fault, topmost, unless, between, trading, known, band_of, withdraws, in_phase, at_book, Does, Does.at_fault, Does.enters, Does.cancels, Does.switches, Takes, Takes.unread, Takes.read}
+use Rattle.market.specs.Venues.{View, fault, withdraws, in_phase, at_book, Does, Does.at_fault, Does.enters, Does.cancels, Does.switches, Takes, Takes.unread, Takes.read}
 use Rattle.market.proofs.Cancelling.{Ended, cancels_keep, withdrawn_keeps}
 use Rattle.market.proofs.Entering.{enters_keeps}
 use Rattle.market.proofs.Keeping.{Orderly, Keeps, keeps_still, keeps_padded}
 
--- where no condition of a table holds, each test does
-topmost_none : (test : Bool) (e : Refusal) (faults : List (Option Refusal)) → topmost (unless test e ∷ faults) ≡ None → (test ≡ true) × (topmost faults ≡ None)
-topmost_none true e faults h = (refl, h)
-topmost_none false e faults h = let z : ◌≡◌ {A = ℕ} 0 1 = cc in absurd (omega arith)
-
 -- an order that the gate lets pass is of at most 10,000
-pub entered_small : (v : View) (p i : ℕ) (s : Side) (q : ℕ) (r : Price) (d : Duration) → fault v (Enter p i s q r d) ≡ None → q ≤ 10000
-entered_small v p i s q r d h =
-    let h₁ = (topmost_none (trading v.phase) refusal.Phase _ h).1 in
-    let h₂ = (topmost_none (between 1 999 p) refusal.Participant _ h₁).1 in
-    let h₃ = (topmost_none (known (band_of v.bands i)) (refusal.Unknown 2) _ h₂).1 in
-    let sized = (topmost_none (between 1 10000 q) (refusal.Quantity 4) _ h₃).0 in
-    leb-true q 10000 (and_parts (leb 1 q) (leb q 10000) sized).1
+entered_small : (v : View) (p i : ℕ) (s : Side) (q : ℕ) (r : Price) (d : Duration) → fault v (Enter p i s q r d) ≡ None → q ≤ 10000
+entered_small v p i s q r d h = grind (arith, nat_tests)
 
 -- where a call is accepted, its effect keeps the book, with the entry that its answer gives
 abbrev Done : View → Call → Ending View → Type 0
@@ -42,27 +31,20 @@ at_book_done : (v u : View) (c : Call) (e : Ending BookState) → Ended v.book (
 at_book_done v u c (refused e) k = tt
 at_book_done v u c (done e) k = k
 
-report_keeps : (v : View) (room : ℕ) (c : Call) (e : Effect View) → Orderly v.book → Done v c (done e) →
-    Keeps v.book (report v room e).rows (entries_of (Ok c) (report v room e).answer) (report v room e).after.book
-report_keeps v room c e s k =
-    let reported : Outcome View = record { answer = Ok (acceptance_numbers e.accepted); rows = e.rows ++ blank (room - length e.rows); after = e.after } in
-    let kept : Bool → Outcome View = λ b. cond b (refuse v room refusal.ReportFull) reported in
-    elim (ltb room (length e.rows)) as (λ b. Keeps v.book (kept b).rows (entries_of (Ok c) (kept b).answer) (kept b).after.book) [
-      | true ↦ keeps_still v.book room s
-      | false ↦ keeps_padded v.book e.rows (entry_of c (acceptance_numbers e.accepted).0) e.after.book (room - length e.rows) k
-    ]
-
 close_keeps : (v : View) (room : ℕ) (c : Call) (e : Ending View) → Orderly v.book → Done v c e →
     Keeps v.book (close v room e).rows (entries_of (Ok c) (close v room e).answer) (close v room e).after.book
 close_keeps v room c (refused e) s k = keeps_still v.book room s
-close_keeps v room c (done e) s k = report_keeps v room c e s k
+close_keeps v room c (done e) s k =
+    cond_both (ltb room (length e.rows)) _ _ (λ (r : Outcome View). Keeps v.book r.rows (entries_of (Ok c) r.answer) r.after.book)
+    (λ _. keeps_still v.book room s)
+    (λ _. keeps_padded v.book e.rows (entry_of c (acceptance_numbers e.accepted).0) e.after.book (room - length e.rows) k)
 
 module _ (shares : List ℕ → ℕ → List ℕ) (laws : Laws shares) where
   does_done : (v : View) (c : Call) (e : Ending View) → Orderly v.book → Does shares v c e → Done v c e
   does_done v c _ s (at_fault _ e h) = tt
   does_done v _ _ s (enters p i side q r d e h m) =
       at_book_done v v (Enter p i side q r d) e
-      (enters_keeps shares laws v.book (record { participant = p; instrument = i; side = side; quantity = record { 0 = q }; price = r; duration = d }) s e (entered_small v p i side q r d h) m)
+      (enters_keeps shares laws v.book _ s e (entered_small v p i side q r d h) m)
   does_done v _ _ s (cancels p n e h m) = at_book_done v v (Cancel p n) e (cancels_keep v.book p n e s m)
   does_done v _ _ s (switches w phase h) = at_book_done v (in_phase v phase) (Switch w) (withdrawn (withdraws w) v.book) (withdrawn_keeps (withdraws w) v.book s)
 

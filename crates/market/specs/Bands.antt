@@ -1,6 +1,6 @@
 -- The price bands of a build line, and what is refused of them.
-use Rattle.std.specs.Prelude.{◌≡◌, ℕ, ◌+◌, Bool, true, false, cond, List, [], ◌∷◌, ◌++◌, length, Some, None, Option, nat_le}
-use Rattle.std.specs.List.{AllByRecursion}
+use Rattle.std.specs.Prelude.{◌≡◌, ℕ, ◌+◌, Bool, false, cond, List, [], ◌∷◌, ◌++◌, length, Some, None, Option, nat_le}
+use Rattle.std.specs.List.{AllPass}
 use Rattle.market.specs.declared.product.Band.{Band}
 use Rattle.market.specs.declared.refusal.Refusal.{Refusal}
 use Rattle.market.specs.declared.refusal.Refusal.TheVariants as refusal
@@ -32,10 +32,6 @@ build_fault bands = topmost (
     ∷ [])
 
 -- ---- what this says
-
--- every band passes the test
-abbrev pub AllPass : (Band → Bool) → List Band → Type 0
-AllPass test bands = AllByRecursion (λ b. test b ≡ true) bands
 
 -- the refusal names the place of the first band that fails the test, where the first of the list has the place n
 pub record FirstFailing (test : Band → Bool) (bands : List Band) (n : ℕ) (e : Refusal) : Type 0 where

@@ -1,6 +1,6 @@
 -- What the book does with an order that arrives, is cancelled or is withdrawn.
 use Rattle.std.specs.Prelude.{◌≡◌, ℕ, ◌+◌, ◌-◌, ◌<◌, ◌≤◌, Bool, true, false, not, List, [], ◌∷◌, ◌++◌, map, length, filter}
-use Rattle.std.specs.List.{AllByRecursion}
+use Rattle.std.specs.List.{All}
 use Rattle.market.specs.declared.acceptance.Acceptance.TheVariants.{Entered, Cancelled, Switched}
 use Rattle.market.specs.declared.arrival.Arrival.{Arrival}
 use Rattle.market.specs.declared.call.Duration.TheVariants.{Day, Immediate, FillOrKill}
@@ -52,7 +52,7 @@ module _ (shares : List ℕ → ℕ → List ℕ) where
 -- the participant's order of that number is taken out; all others stay as found
 pub data Cancels (m : BookState) (participant number : ℕ) : Ending BookState → Type 0 where
   taken_out : (before : List Order) (o : Order) (behind : List Order) → m.orders ≡ before ++ (o ∷ behind) →
-      AllByRecursion (λ x. own participant number x ≡ false) before → own participant number o ≡ true →
+      All (λ x. own participant number x ≡ false) before → own participant number o ≡ true →
       Cancels m participant number (done (record { accepted = Cancelled number (quantity_of o); rows = cancel_row o ∷ []; after = record { orders = before ++ behind; next = m.next } }))
 
 -- the orders that are withdrawn

@@ -1,11 +1,11 @@
 -- Levels: the resting orders of one book, one side and one price, in book order.
 use Rattle.std.specs.Prelude.{◌≡◌, ℕ, Bool, true, false, cond, ◌&&◌, List, [], ◌∷◌, map, filter, nat_lt}
-use Rattle.std.specs.List.{AllByRecursion}
+use Rattle.std.specs.List.{All, Any}
 use Rattle.market.specs.declared.book_id.BookId.{BookId}
 use Rattle.market.specs.declared.order.Order.{Order}
 use Rattle.market.specs.declared.price.Price.{Price}
 use Rattle.market.specs.declared.side.Side.{Side}
-use Rattle.market.specs.Lists.{Any, first, rest}
+use Rattle.market.specs.Lists.{first, rest}
 use Rattle.market.specs.Orders.{stands, quantity_of, less}
 use Rattle.market.specs.Prices.{opposite, good, same_price}
 
@@ -24,11 +24,11 @@ quantities os = map quantity_of os
 -- the best price to one who trades on side s: an order of the opposite side has it, and to s it is at least as good as that of any other
 pub record Best (b : BookId) (s : Side) (os : List Order) (p : Price) : Type 0 where
   pub there : Any (λ o. (stands b (opposite s) o ≡ true) × (o.price ≡ p)) os
-  pub none_better : AllByRecursion (λ o. stands b (opposite s) o ≡ true → good s p o.price ≡ true) os
+  pub none_better : All (λ o. stands b (opposite s) o ≡ true → good s p o.price ≡ true) os
 
 -- no order of the opposite side has a price within the limit of one who trades on side s
 abbrev pub NoneWithin : BookId → Side → Price → List Order → Type 0
-NoneWithin b s limit os = AllByRecursion (λ o. stands b (opposite s) o ≡ true → good s o.price limit ≡ false) os
+NoneWithin b s limit os = All (λ o. stands b (opposite s) o ≡ true → good s o.price limit ≡ false) os
 
 -- each order that passes the test less its share, one for each in book order; all others as found
 abbrev pub reduced : (Order → Bool) → List Order → List ℕ → List Order

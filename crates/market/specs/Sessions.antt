@@ -1,6 +1,6 @@
 -- A session: what was asked and answered since a venue was built, and the law that holds of every one.
 use Rattle.std.specs.Prelude.{◌≡◌, ℕ, ◌+◌, ◌<◌, ◌≤◌, Bool, true, false, cond, ◌&&◌, ◌||◌, ◌⊎◌, List, [], ◌∷◌, ◌<ℤ◌, Ok, Err, Result, ◌==◌}
-use Rattle.std.specs.List.{AllByRecursion}
+use Rattle.std.specs.List.{All, Any, sum_by}
 use Rattle.market.specs.declared.call.Call.{Call}
 use Rattle.market.specs.declared.call.Call.TheVariants.{Enter, Amend, Cancel, Quote, Define, Switch}
 use Rattle.market.specs.declared.order.Order.{Order}
@@ -10,7 +10,6 @@ use Rattle.market.specs.declared.row.RowKind.{RowKind}
 use Rattle.market.specs.declared.row.RowKind.TheVariants as kind
 use Rattle.market.specs.declared.side.Side.TheVariants.{Buy, Sell}
 use Rattle.market.specs.Endings.{Follows}
-use Rattle.market.specs.Lists.{Any, sum_of}
 use Rattle.market.specs.Orders.{lot_book, quantity_of}
 use Rattle.market.specs.Venues.{View, fresh, Takes}
 
@@ -45,15 +44,15 @@ names n row = row.buyer == n || row.seller == n
 
 -- what the rows of a kind say of the order n
 abbrev pub counted : (RowKind → Bool) → ℕ → List Row → ℕ
-counted is n rows = sum_of (λ row. cond (is row.kind && names n row) row.quantity 0) rows
+counted is n rows = sum_by (λ row. cond (is row.kind && names n row) row.quantity 0) rows
 
 -- what rests of the order n
 abbrev pub resting : ℕ → List Order → ℕ
-resting n os = sum_of (λ o. cond (o.number == n) (quantity_of o) 0) os
+resting n os = sum_by (λ o. cond (o.number == n) (quantity_of o) 0) os
 
 -- what the reports so far say of the order n
 abbrev pub over : {Message : Type 0} → (RowKind → Bool) → ℕ → List (Turn Message) → ℕ
-over is n h = sum_of (λ t. counted is n t.rows) h
+over is n h = sum_by (λ t. counted is n t.rows) h
 
 -- of one book, the buy's price is below the sell's
 abbrev pub Apart : Order → Order → Type 0
@@ -72,7 +71,7 @@ entry_of (Enter p i s q r d) n = record { number = n; quantity = q } ∷ []
 entry_of (Amend p n q r) m = []
 entry_of (Cancel p n) m = []
 entry_of (Quote p i q r k t) m = []
-entry_of (Define p k legs) m = []
+entry_of (Define p legs) m = []
 entry_of (Switch w) m = []
 
 -- the numbers that an answer gives: none where the line could not be read or was refused
@@ -117,7 +116,7 @@ module _ {Message : Type 0} (reading : Message → Result Call Refusal) where
     pub numbered : (n : ℕ) → 1 ≤ n → n < v.book.next → (q : ℕ) × Entered h n q
     pub no_other : (n : ℕ) → Given h n → (1 ≤ n) × (n < v.book.next)
     -- every buyer or seller in a row, and every resting order, is an order whose number was given; as the law holds after each turn, no later than in that turn
-    pub named : AllByRecursion (λ t. AllByRecursion (λ row. AbsentOrGiven h row.buyer × AbsentOrGiven h row.seller) t.rows) h
-    pub rests_given : AllByRecursion (λ o. Given h o.number) v.book.orders
+    pub named : All (λ t. All (λ row. AbsentOrGiven h row.buyer × AbsentOrGiven h row.seller) t.rows) h
+    pub rests_given : All (λ o. Given h o.number) v.book.orders
     -- no resting buy has a price at or above that of a resting sell of the same book
-    pub uncrossed : AllByRecursion (λ x. AllByRecursion (λ y. Apart x y) v.book.orders) v.book.orders
+    pub uncrossed : All (λ x. All (λ y. Apart x y) v.book.orders) v.book.orders

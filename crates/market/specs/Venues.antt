@@ -126,7 +126,7 @@ fault v (Cancel p n) = topmost (
 fault v (Switch w) = switch_fault (next_phase v.phase w)
 fault v (Amend p n q r) = not_offered
 fault v (Quote p i q r k t) = not_offered
-fault v (Define p k legs) = not_offered
+fault v (Define p legs) = not_offered
 
 -- ---- what is done
 

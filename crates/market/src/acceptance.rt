@@ -14,12 +14,12 @@ pub enum Acceptance {
     Switched { orders: u32 },
 }
 
-impl Acceptance {
-    // The two numbers of the answer.
-    pub fn numbers(self) -> (u32, u32)
-        ensures { result ≡ acceptance_numbers self }
-    {
-        let (first, second) = match self {
+// The two numbers of the answer.
+impl From<Acceptance> for (u32, u32) {
+    ghost from_gives = { λ accepted numbers. numbers ≡ acceptance_numbers accepted };
+
+    fn from(accepted: Acceptance) -> (u32, u32) {
+        let (first, second) = match accepted {
             Acceptance::Built { instruments } => (instruments, 0),
             Acceptance::Entered { number, traded } => (number, traded),
             Acceptance::Cancelled { number, quantity } => (number, quantity),

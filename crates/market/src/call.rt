@@ -2,6 +2,7 @@
 use crate::phase::Event;
 use crate::price::Price;
 use crate::side::Side;
+use arrayvec::ArrayVec;
 
 // What becomes of what does not trade: it rests for the day, is cancelled, or the order trades whole or not at all.
 #[derive(Clone, Copy)]
@@ -11,14 +12,14 @@ pub enum Duration {
     FillOrKill,
 }
 
-#[derive(Clone, Copy)]
+#[derive(Clone, Copy, Default)]
 pub struct Leg {
     pub instrument: u32,
     pub ratio: i32,
 }
 
 // One call, as read from a line: all numbers as they stand there.
-#[derive(Clone, Copy)]
+#[derive(Drop)]
 pub enum Call {
     Enter {
         participant: u32,
@@ -48,8 +49,7 @@ pub enum Call {
     },
     Define {
         participant: u32,
-        count: u32,
-        legs: [Leg; 10],
+        legs: ArrayVec<Leg, 10>,
     },
     Switch {
         event: Event,

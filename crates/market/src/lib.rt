@@ -9,6 +9,7 @@ pub mod counts;
 pub mod figures;
 pub mod laws;
 pub mod order;
+pub mod order_id;
 pub mod phase;
 pub mod price;
 pub mod product;

@@ -7,7 +7,7 @@ pub enum Product {
 }
 
 // The lowest and the highest price that an instrument's orders may have.
-#[derive(Clone, Copy)]
+#[derive(Clone, Copy, Default)]
 pub struct Band {
     pub low: u32,
     pub high: u32,

@@ -6,18 +6,18 @@ ghost use Rattle.market.specs.Rows.{blank};
 use crate::row::Row;
 
 // The layer of the venue that refuses.
-#[derive(Clone, Copy)]
+#[derive(Clone, Copy, PartialEq, Eq, Debug)]
 pub enum Layer {
     Line,
     Gate,
     Book,
 }
 
-impl Layer {
-    pub fn number(self) -> u32
-        ensures { result ≡ layer_number self }
-    {
-        match self {
+impl From<Layer> for u32 {
+    ghost from_gives = { λ layer n. n ≡ layer_number layer };
+
+    fn from(layer: Layer) -> u32 {
+        match layer {
             Layer::Line => 1,
             Layer::Gate => 2,
             Layer::Book => 3,
@@ -26,7 +26,7 @@ impl Layer {
 }
 
 // A number with a case is the place of the byte or field at fault.
-#[derive(Clone, Copy)]
+#[derive(Clone, Copy, PartialEq, Eq, Debug)]
 pub enum Refusal {
     NotOffered,
     Byte(u32),
@@ -44,18 +44,18 @@ pub enum Refusal {
 }
 
 // How a refusal is told: its number, the layer that refuses, and the place at fault.
-#[derive(Clone, Copy)]
+#[derive(Clone, Copy, PartialEq, Eq, Debug)]
 pub struct RefusalCode {
     pub number: u32,
     pub layer: Layer,
     pub place: u32,
 }
 
-impl Refusal {
-    pub fn code(self) -> RefusalCode
-        ensures { result ≡ refusal_code self }
-    {
-        let (number, layer, place) = match self {
+impl From<Refusal> for RefusalCode {
+    ghost from_gives = { λ refusal code. code ≡ refusal_code refusal };
+
+    fn from(refusal: Refusal) -> RefusalCode {
+        let (number, layer, place) = match refusal {
             Refusal::NotOffered => (0, Layer::Gate, 0),
             Refusal::Byte(place) => (1, Layer::Line, place),
             Refusal::Field(place) => (2, Layer::Line, place),
@@ -79,7 +79,7 @@ impl Refusal {
 }
 
 // A refusal reports nothing.
-pub fn refuse(report: &mut [Row], why: Refusal) -> Result<(u32, u32), Refusal>
+pub fn refuse<T>(report: &mut [Row], why: Refusal) -> Result<T, Refusal>
     ensures answer { result ≡ Err why }
     ensures blank { report.new ≡ blank (length report.old) }
 {

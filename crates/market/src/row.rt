@@ -5,7 +5,7 @@ ghost use Rattle.market.specs.Rows.{kind_number, kind_letter, blank_row};
 use crate::price::Amount;
 
 // What a row tells of: nothing, a contract trade, a leg of a trade between combinations, a combination trade, a cancellation.
-#[derive(Clone, Copy)]
+#[derive(Clone, Copy, PartialEq, Eq, Debug)]
 pub enum RowKind {
     Blank,
     Trade,
@@ -14,11 +14,11 @@ pub enum RowKind {
     Cancellation,
 }
 
-impl RowKind {
-    pub fn number(self) -> u32
-        ensures { result ≡ kind_number self }
-    {
-        match self {
+impl From<RowKind> for u32 {
+    ghost from_gives = { λ kind n. n ≡ kind_number kind };
+
+    fn from(kind: RowKind) -> u32 {
+        match kind {
             RowKind::Blank => 0,
             RowKind::Trade => 1,
             RowKind::Leg => 2,
@@ -26,11 +26,13 @@ impl RowKind {
             RowKind::Cancellation => 4,
         }
     }
+}
 
-    pub fn letter(self) -> char
-        ensures { result ≡ kind_letter self }
-    {
-        match self {
+impl From<RowKind> for char {
+    ghost from_gives = { λ kind letter. letter ≡ kind_letter kind };
+
+    fn from(kind: RowKind) -> char {
+        match kind {
             RowKind::Blank => '-',
             RowKind::Trade => 'T',
             RowKind::Leg => 'U',

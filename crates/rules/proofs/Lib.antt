@@ -1,1 +1,2 @@
 pub mod Total
+pub mod Steps

@@ -4,4 +4,3 @@ pub mod ProRata
 pub mod AnyLength
 pub mod PriceTimeLemmas
 pub mod ProRataLemmas
-pub mod Writes

@@ -16,9 +16,3 @@ price_time_within (q ∷ qs) left (suc k) = price_time_within qs (left - q) k
 pub price_time_sum : (qs : List ℕ) (left : ℕ) → total (price_time qs left) ≡ min left (total qs)
 price_time_sum [] left = omega arith
 price_time_sum (q ∷ qs) left = omega (arith, price_time_sum qs (left - q))
-
-pub price_time_step : (q : ℕ) (qs : List ℕ) (left s : ℕ) → s ≡ min left q → price_time (q ∷ qs) left ≡ s ∷ price_time qs (left - s)
-price_time_step q qs left s is =
-    let rest : left - q ≡ left - s = omega arith in
-    let head : min q left ≡ s = omega arith in
-    cc

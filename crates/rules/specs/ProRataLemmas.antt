@@ -1,12 +1,10 @@
 -- What holds of `pro_rata` at any length.
-use Rattle.std.specs.Prelude.{◌≡◌, ℕ, zero, suc, ◌+◌, ◌-◌, ◌*◌, ◌/◌, ◌<◌, ◌≤◌, min, List, [], ◌∷◌, ◌++◌, map, length, take, drop, nat_lt, slice_index, slice_set, refl}
+use Rattle.std.specs.Prelude.{◌≡◌, ℕ, zero, suc, ◌+◌, ◌-◌, ◌*◌, ◌/◌, ◌<◌, ◌≤◌, min, List, [], ◌∷◌, map, length, nat_lt, slice_index, refl}
 use Rattle.std.proofs.Common.{ap, ⊎_elim, add-mul, mul-add, mul_comm, mul-le-mul_left, arith}
 use Rattle.std.proofs.Math.Nat.{lt-mul-div-succ, mul-div-le, div-le_of_le-mul, le_of_mul-le-mul_left}
-use Rattle.std.proofs.lemmas.List.{at_drop_more, at_drop_all, drop_more, drop-set-lt}
 use Rattle.std.proofs.lemmas.Bool.{cases_lt, cond_both, ltb-true, ltb-false}
 use Rattle.rules.specs.Domain.{total}
 use Rattle.rules.specs.ProRata.{parts, one_more, one_each, pro_rata}
-use Rattle.rules.specs.Writes.{write_more}
 
 -- `one_each` where a function of the quantity gives its part
 module _ (f : ℕ → ℕ) where
@@ -91,19 +89,3 @@ pro_rata_sum qs give =
     let short : give < total qs = ltb-true give (total qs) e in
     omega (arith, one_each_sum (λ q. q * give / total qs) qs (give - total (parts give sum qs)), parts_below give sum short qs refl, most_above give sum short qs refl))
     (λ e. omega (arith, ltb-false give sum e))
-
--- one turn of a loop that makes `one_each` in place: the share at `i` grows by `m`
-pub one_each_next : (qs out : List ℕ) (i left m : ℕ) (after : List ℕ) (rest : ℕ) → i < length qs → i < length out → m ≡ one_more (slice_index qs i) (slice_index out i) left → after ≡ slice_set out i (slice_index out i + m) → rest ≡ left - m → take (i + 1) after ++ one_each (drop (i + 1) qs) (drop (i + 1) after) rest ≡ take i out ++ one_each (drop i qs) (drop i out) left
-one_each_next qs out i left m after rest inside room is written left_is =
-    let s : ℕ = slice_index out i + m in
-    let same : drop (i + 1) (slice_set out i s) ≡ drop (i + 1) out = drop-set-lt (i + 1) out i s (omega arith) in
-    let head : one_each (slice_index qs i ∷ drop (i + 1) qs) (drop i out) left ≡ s ∷ one_each (drop (i + 1) qs) (drop (i + 1) out) rest =
-    (let cut = drop_more out i 0 room in cc) in
-    simp (written, same) (write_more (λ xs. one_each xs (drop i out) left) (λ xs. one_each xs (drop (i + 1) out) rest) qs out i s inside room head)
-
--- what the parts from `i` on come to, with the part at `i` apart
-pub parts_more : (give sum : ℕ) (qs : List ℕ) (i : ℕ) → i < length qs → total (parts give sum (drop i qs)) ≡ slice_index qs i * give / sum + total (parts give sum (drop (i + 1) qs))
-parts_more give sum qs i h = at_drop_more (λ xs. total (parts give sum xs)) qs i 0 h
-
-pub parts_end : (give sum : ℕ) (qs : List ℕ) (i : ℕ) → length qs ≤ i → total (parts give sum (drop i qs)) ≡ 0
-parts_end give sum qs i h = at_drop_all (λ xs. total (parts give sum xs)) qs i h

@@ -27,6 +27,7 @@ impl AllocationRule for PriceTime {
 
     fn divide(&self, quantities: &[u32], give: u32, out: &mut [u32]) {
         let mut left = give;
+        // With its index: of a slice that a zip walks by `iter_mut` a proof knows no element.
         for (i, q) in quantities.iter().enumerate() {
             let share = share_of(*q, left);
             out[i] = share;

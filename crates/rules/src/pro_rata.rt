@@ -1,5 +1,5 @@
 // Pro rata: each order takes its part of what is given, rounded down, and what is left goes one each.
-ghost use Rattle.std.specs.Prelude.{◌≡◌, ℕ, ◌<◌, ◌≤◌, length, slice_index};
+ghost use Rattle.std.specs.Prelude.{◌≡◌, ◌^◌, ◌<◌, length, sum};
 ghost use Rattle.rules.specs.Domain.{Domain, total};
 ghost use Rattle.rules.specs.ProRata.{parts, one_more, one_each, pro_rata};
 ghost use Rattle.rules.specs.ProRataLemmas.{pro_rata_count, pro_rata_within, pro_rata_sum};
@@ -10,15 +10,10 @@ use crate::rule::AllocationRule;
 pub struct ProRata;
 
 fn sum_of(quantities: &[u32]) -> u32
-    requires few { length quantities.now ≤ 256 }
-    requires small { (k : ℕ) → slice_index quantities.now k ≤ 10000 }
+    requires { sum quantities.now < 2 ^ 32 }
     ensures { result ≡ total quantities.now }
 {
-    let mut sum = 0;
-    for q in quantities {
-        sum += *q;
-    }
-    sum
+    quantities.iter().sum()
 }
 
 // Writes each order's part of `give`, rounded down, and returns what the parts come to.
@@ -31,6 +26,7 @@ fn write_parts(quantities: &[u32], give: u32, sum: u32, out: &mut [u32]) -> u32
     ensures given { result ≡ total (parts give sum quantities.now) }
 {
     let mut given = 0;
+    // With its index: of a slice that a zip walks by `iter_mut` a proof knows no element.
     for (i, q) in quantities.iter().enumerate() {
         let part = (*q as u64 * give as u64 / sum as u64) as u32;
         out[i] = part;
@@ -51,6 +47,7 @@ fn add_one_each(quantities: &[u32], mut left: u32, out: &mut [u32])
     requires { length out.old ≡ length quantities.now }
     ensures { out.new ≡ one_each quantities.now out.old left }
 {
+    // With its index: of a slice that a zip walks by `iter_mut` a proof knows no element.
     for (i, q) in quantities.iter().enumerate() {
         let more = one_more(*q, out[i], left);
         out[i] += more;

@@ -1,4 +1,5 @@
 // A stored session: a build line that is refused.
+// The same program as `venue`, in a crate of its own: a crate's program is run once, on the crate's own stdin and stdout.
 #![tactic(auto)]
 
 use console::serving::serve;

@@ -1,25 +1,13 @@
 // The calls of a cutter.
-ghost use Rattle.std.specs.Prelude.{◌≡◌, ℕ, ◌+◌, ◌^◌, ◌<◌, ◌≤◌, List, [], ◌++◌, length, take as take_front, IfOk, if◌then◌else◌, vec_len, vec_capacity};
-ghost use Rattle.console.specs.Lines.{before_newline, LinesPart};
-ghost use Rattle.console.specs.Cuts.{start, kept, pending, handed_by, Fed, Cuts};
+ghost use Rattle.std.specs.Prelude.{◌≡◌, ℕ, ◌<◌, ◌≤◌, List, [], ◌++◌, length, take as take_front, position, IfOk, vec_len, vec_capacity, ◌==◌};
+ghost use Rattle.console.specs.Lines.{LinesPart};
+ghost use Rattle.console.specs.Cuts.{start, kept, pending, used_by, handed_by, Fed, Cuts};
 
-use crate::cutter::{Cut, LineCutter};
+use crate::cutter::LineCutter;
 use std::alloc::{AllocError, Global};
 
 // How many bytes of a line are kept.
 const KEPT: usize = 1201;
-
-// How many bytes stand before the first newline.
-fn line_length(block: &[u8]) -> usize
-    ensures { result ≡ length (before_newline block.now) }
-{
-    for (i, b) in block.iter().enumerate() {
-        if *b == b'\n' {
-            return i;
-        }
-    }
-    block.len()
-}
 
 // Adds to a line, of which no more than its start is kept.
 fn keep(line: &mut Vec<u8>, more: &[u8])
@@ -29,17 +17,16 @@ fn keep(line: &mut Vec<u8>, more: &[u8])
     ensures capacity { vec_capacity line.new ≡ vec_capacity line.old }
 {
     let n = more.len().min(KEPT - line.len());
-    for i in 0..n {
-        line.push_reserved(more[i]);
+    for byte in &more[..n] {
+        line.push_reserved(*byte);
     }
 }
 
-// The bytes of a line, and its newline where there is one.
-fn past(n: usize, complete: bool) -> usize
-    requires { n < 2 ^ 63 }
-    ensures { result ≡ n + (if complete then 1 else 0) }
+// Where the first newline of a block stands.
+fn newline(block: &[u8]) -> Option<usize>
+    ensures { result ≡ position (λ b. b == 10) block.now }
 {
-    if complete { n + 1 } else { n }
+    block.iter().position(|byte| *byte == b'\n')
 }
 
 impl LineCutter {
@@ -55,28 +42,32 @@ impl LineCutter {
         })
     }
 
-    // Takes from a block up to and with the first newline, or all of it.
-    pub fn take(&mut self, block: &[u8]) -> Cut
+    // Takes from a block up to and with the first newline, and answers how many bytes these are; takes all of it where there is none.
+    pub fn take(&mut self, block: &[u8]) -> Option<usize>
         ensures cuts { Cuts self.old block.now result self.new }
-        ensures fed { (input : List ℕ) (handed : List (List ℕ)) → Fed self.old input handed → Fed self.new (input ++ take_front result.used block.now) (handed ++ handed_by result self.new) }
-        ensures within { result.used ≤ length block.now }
-        ensures forward { 0 < length block.now → 0 < result.used }
+        ensures fed { (input : List ℕ) (handed : List (List ℕ)) → Fed self.old input handed → Fed self.new (input ++ take_front (used_by result block.now) block.now) (handed ++ handed_by result self.new) }
+        ensures within { used_by result block.now ≤ length block.now }
+        ensures forward { 0 < length block.now → 0 < used_by result block.now }
     {
         self.cut(block)
     }
 
     // One cut.
-    fn cut(&mut self, block: &[u8]) -> Cut
+    fn cut(&mut self, block: &[u8]) -> Option<usize>
         ensures { Cuts self.old block.now result self.new }
     {
-        let n = line_length(block);
-        let complete = n < block.len();
         self.begin();
-        keep(&mut self.line, &block[0..n]);
-        self.complete = complete;
-        Cut {
-            used: past(n, complete),
-            complete,
+        match newline(block) {
+            Some(n) => {
+                keep(&mut self.line, &block[..n]);
+                self.complete = true;
+                Some(n + 1)
+            }
+            None => {
+                keep(&mut self.line, block);
+                self.complete = false;
+                None
+            }
         }
     }
 

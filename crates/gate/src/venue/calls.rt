@@ -1,24 +1,27 @@
 // What may be done with a venue.
-ghost use Rattle.std.specs.Prelude.{◌≡◌, ◌≤◌, length, IfOk, None, OnErr};
+ghost use Rattle.std.specs.Prelude.{◌≡◌, ◌≤◌, length};
 ghost use Rattle.market.specs.declared.call.Call.TheVariants.{Enter, Cancel, Switch};
-ghost use Rattle.market.specs.Bands.{build_fault, BandsJudged};
+ghost use Rattle.market.specs.Bands.{BandsJudged};
 ghost use Rattle.market.specs.Endings.{Follows};
 ghost use Rattle.market.specs.Venues.{Does, fault};
+ghost use Rattle.gate.specs.Conditions.{Judges};
 ghost use Rattle.gate.specs.Views.{view, BuiltWith, refusal_of};
 
 use super::Venue;
-use crate::fault::{between, build_fault, known, topmost, unless, within_band};
+use crate::build_error::BuildError;
+use crate::fault::{judge, unless, within_band};
 use crate::trading::Trading;
 use book::book::Book;
 use market::arrival::Arrival;
 use market::call::Call;
 use market::counts::Contracts;
+use market::order_id::OrderId;
 use market::phase::{Event, Phase};
 use market::product::{Band, Product};
 use market::refusal::{Refusal, refuse};
 use market::row::Row;
 use rules::rule::AllocationRule;
-use std::alloc::{AllocError, Global};
+use std::alloc::Global;
 
 impl<R: AllocationRule> Venue<R> {
     // A venue in Pre Open with no order, or a refusal where a band is broken; memory is taken only once the bands are judged sound.
@@ -27,78 +30,75 @@ impl<R: AllocationRule> Venue<R> {
         rule: R,
         product: Product,
         bands: &[Band],
-    ) -> Result<Result<Venue<R>, Refusal>, AllocError>
+    ) -> Result<Venue<R>, BuildError>
     where
         R: Drop,
         requires { length bands.now ≤ 64 }
-        ensures built { IfOk result (λ b. BuiltWith product bands.now rule b) }
-        ensures judged { OnErr result (build_fault bands.now ≡ None) }
-        ensures bands { IfOk result (λ b. BandsJudged bands.now (refusal_of b)) }
+        ensures built { BuiltWith product bands.now rule result }
+        ensures bands { BandsJudged bands.now (refusal_of result) }
     {
-        if let Some(refusal) = build_fault(bands) {
-            return Ok(Err(refusal));
-        }
+        judge(bands)?;
         let trading = Trading {
             phase: Phase::PreOpen,
             bands: Vec::from_slice(heap, bands)?,
         };
         let book = Book::new(heap)?;
-        Ok(Ok(Venue {
+        Ok(Venue {
             book,
             rule,
             product,
             trading,
-        }))
+        })
     }
 
-    // What is refused of an order that is to enter.
-    fn enter_fault(&self, arrival: Arrival) -> Option<Refusal>
-        ensures { result ≡ fault (view self.now) (Enter arrival.participant arrival.instrument arrival.side arrival.quantity.0 arrival.price arrival.duration) }
+    // Whether an order may enter, and if not, why.
+    fn may_enter(&self, arrival: Arrival) -> Result<(), Refusal>
+        ensures { Judges (fault (view self.now) (Enter arrival.participant arrival.instrument arrival.side arrival.quantity.0 arrival.price arrival.duration)) result }
     {
-        let band = self.trading.band(arrival.instrument);
-        topmost(&[
-            unless(self.trading.open(), Refusal::Phase),
-            unless(between(1, 999, arrival.participant), Refusal::Participant),
-            unless(known(band), Refusal::Unknown(2)),
-            unless(between(1, 10_000, arrival.quantity.0), Refusal::Quantity(4)),
-            unless(within_band(band, arrival.price), Refusal::Price(5)),
-        ])
+        unless(self.trading.open(), Refusal::Phase)?;
+        unless(
+            (1..=999).contains(&arrival.participant),
+            Refusal::Participant,
+        )?;
+        let band = self
+            .trading
+            .band(arrival.instrument)
+            .ok_or(Refusal::Unknown(2))?;
+        unless(
+            (1..=10_000).contains(&arrival.quantity.0),
+            Refusal::Quantity(4),
+        )?;
+        unless(within_band(band, arrival.price), Refusal::Price(5))
     }
 
+    // A refusal also blanks the report, so that `?` alone would not do.
     fn enter(&mut self, arrival: Arrival, report: &mut [Row]) -> Result<(u32, u32), Refusal>
         ensures follows { Follows (Does (R.AllocationRule.shares self.old.rule) (view self.old) (Enter arrival.participant arrival.instrument arrival.side arrival.quantity.0 arrival.price arrival.duration)) (view self.old) (length report.old) result report.new (view self.new) }
         ensures rule { self.new.rule ≡ self.old.rule }
     {
-        if let Some(refusal) = self.enter_fault(arrival) {
+        if let Err(refusal) = self.may_enter(arrival) {
             return refuse(report, refusal);
         }
         self.book.enter(&self.rule, arrival, report)
     }
 
-    // What is refused of a cancel.
-    fn cancel_fault(&self, participant: u32, number: u32) -> Option<Refusal>
-        ensures { result ≡ fault (view self.now) (Cancel participant number) }
+    // Whether an order may be cancelled, and if not, why.
+    fn may_cancel(&self, id: OrderId) -> Result<(), Refusal>
+        ensures { Judges (fault (view self.now) (Cancel id.participant id.number)) result }
     {
-        topmost(&[
-            unless(self.trading.serving(), Refusal::Phase),
-            unless(between(1, 999, participant), Refusal::Participant),
-            unless(self.book.owns(participant, number), Refusal::Order),
-        ])
+        unless(self.trading.serving(), Refusal::Phase)?;
+        unless((1..=999).contains(&id.participant), Refusal::Participant)?;
+        unless(self.book.owns(id), Refusal::Order)
     }
 
-    fn cancel(
-        &mut self,
-        participant: u32,
-        number: u32,
-        report: &mut [Row],
-    ) -> Result<(u32, u32), Refusal>
-        ensures follows { Follows (Does (R.AllocationRule.shares self.old.rule) (view self.old) (Cancel participant number)) (view self.old) (length report.old) result report.new (view self.new) }
+    fn cancel(&mut self, id: OrderId, report: &mut [Row]) -> Result<(u32, u32), Refusal>
+        ensures follows { Follows (Does (R.AllocationRule.shares self.old.rule) (view self.old) (Cancel id.participant id.number)) (view self.old) (length report.old) result report.new (view self.new) }
         ensures rule { self.new.rule ≡ self.old.rule }
     {
-        if let Some(refusal) = self.cancel_fault(participant, number) {
+        if let Err(refusal) = self.may_cancel(id) {
             return refuse(report, refusal);
         }
-        self.book.cancel(participant, number, report)
+        self.book.cancel(id, report)
     }
 
     fn switch(&mut self, event: Event, report: &mut [Row]) -> Result<(u32, u32), Refusal>
@@ -141,7 +141,13 @@ impl<R: AllocationRule> Venue<R> {
             Call::Cancel {
                 participant,
                 number,
-            } => self.cancel(participant, number, report),
+            } => {
+                let id = OrderId {
+                    participant,
+                    number,
+                };
+                self.cancel(id, report)
+            }
             Call::Switch { event } => self.switch(event, report),
             Call::Amend { .. } | Call::Quote { .. } | Call::Define { .. } => {
                 refuse(report, Refusal::NotOffered)

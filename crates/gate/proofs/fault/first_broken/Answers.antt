@@ -1,17 +1,16 @@
-use Rattle.std.proofs.Common.{sym, ap, ◌∙◌, add-zero}
-use Rattle.market.specs.Bands.{first_broken}
-use Rattle.gate.specs.Conditions.{passes}
-use Rattle.gate.proofs.Tables.{broken_here, broken_later, broken_none}
+use Rattle.std.proofs.Common.{not, refl, ap, ◌∙◌, rules}
+use Rattle.std.specs.Option.{option_map}
+use Rattle.std.proofs.lemmas.Iterator.{YieldsList-from_slice}
+use Rattle.std.proofs.lemmas.Iterator.Search.{position_from_yields_List}
+use Rattle.gate.proofs.Tables.{band_at, broken_at}
 use Rattle.gate.proofs.fault.first_broken.Goals as goal
 
-pub loop-i-init : goal.loop-i-init
-loop-i-init c = ap (first_broken (passes c.args.test) c.args.bands.now) (add-zero c.args.place)
+pub returns-in-None : goal.returns-in-None
+returns-in-None g c p h =
+    broken_at p c.args.place c.args.bands.now _ (position_from_yields_List (λ b. not (p b)) _ _ c.position.result c.position.ensures.ran (YieldsList-from_slice c.args.bands.now c.iter.ensures.rest) (λ x b q k. (search rules, h x.now b (record { shown = x; shows = refl; says = search rules }))))
+    ∙ ap (option_map (band_at c.args.place)) c.in-None.is
 
-pub returns-then-not-passes : goal.returns-then-not-passes
-returns-then-not-passes c = sym (sym c.loop-i.invariant ∙ broken_here (passes c.args.test) c.args.bands.now c.args.place c.loop-i.i (record { low = 0; high = 0 }) c.loop-i-test.true (sym c.if-not-passes.ensures))
-
-pub loop-i-preserved : goal.loop-i-preserved
-loop-i-preserved c = broken_later (passes c.args.test) c.args.bands.now c.args.place c.loop-i.i (record { low = 0; high = 0 }) c.loop-i-test.true (sym c.if-not-passes.ensures) ∙ c.loop-i.invariant
-
-pub returns : goal.returns
-returns c = sym (sym c.loop-i.invariant ∙ broken_none (passes c.args.test) c.args.bands.now c.args.place c.loop-i.i c.loop-i-test.false)
+pub returns-in-Some : goal.returns-in-Some
+returns-in-Some g c p h =
+    broken_at p c.args.place c.args.bands.now _ (position_from_yields_List (λ b. not (p b)) _ _ c.position.result c.position.ensures.ran (YieldsList-from_slice c.args.bands.now c.iter.ensures.rest) (λ x b q k. (search rules, h x.now b (record { shown = x; shows = refl; says = search rules }))))
+    ∙ ap (option_map (band_at c.args.place)) c.in-Some.is

@@ -1,10 +1,7 @@
-use Rattle.std.proofs.Common.{sym, ap, ◌∙◌}
-use Rattle.market.specs.Venues.{owned}
-use Rattle.book.proofs.Finding.{owned_at}
-use Rattle.book.proofs.Levels.{no_order}
+use Rattle.std.proofs.Common.{sym, ap, ◌∙◌, vec_items}
+use Rattle.std.specs.Option.{is_some}
+use Rattle.book.proofs.Finding.{owned_is_found}
 use Rattle.book.proofs.book.Book.owns.Goals as goal
 
-pub returns-in-Some : goal.returns-in-Some
-returns-in-Some c =
-    let h = c.in-Some.ensures in
-    sym (ap (owned c.args.participant c.args.number) (sym c.as_slice.ensures.value) ∙ owned_at c.args.participant c.args.number c.as_slice.result.now c.in-Some.field-0 no_order h.0 (h.1 no_order))
+pub returns : goal.returns
+returns c = c.is_some.ensures ∙ ap is_some c.find_own.ensures ∙ sym (owned_is_found c.args.id.participant c.args.id.number (vec_items c.args.self.now.resting.inner.orders))

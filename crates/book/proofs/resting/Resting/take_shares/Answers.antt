@@ -1,64 +1,41 @@
-use Rattle.std.proofs.Common.{◌≡◌, ◌<◌, ◌≤◌, length, get_or, set, vec_items, vec_capacity, sym, ap, ◌∙◌, subst, arith, rules}
-use Rattle.std.proofs.lemmas.List.{get_or_default}
+use Rattle.std.proofs.Common.{◌≡◌, ◌<◌, length, get_or, set, vec_items, vec_capacity, sym, ap, ◌∙◌, subst, arith}
+use Rattle.std.proofs.lemmas.Option.{MatchOption-at_some}
 use Rattle.market.specs.declared.order.Order.{Order}
 use Rattle.market.specs.declared.row.Row.{Row}
-use Rattle.market.specs.Levels.{in_level}
-use Rattle.market.specs.Orders.{less, quantity_of}
+use Rattle.market.specs.Orders.{less}
 use Rattle.market.specs.Rows.{some_row, trade_row}
+use Rattle.market.specs.Levels.{in_level}
+use Rattle.book.specs.declared.place.Place.{Place}
 use Rattle.book.specs.declared.resting.Resting.{Resting}
-use Rattle.book.specs.Reports.{RowsMore}
-use Rattle.book.proofs.Taking.{taking_here, taking_no, taking_yes, taking_end}
+use Rattle.book.specs.Facing.{faces}
+use Rattle.book.specs.Reports.{Tells}
+use Rattle.book.proofs.Taking.{taking_no, taking_yes}
 use Rattle.book.proofs.resting.Resting.take_shares.Goals as goal
-use Rattle.book.proofs.resting.Resting.take_shares.Goals.{then-in_level, else-in_level}
-
-pub bounds-shares-j : goal.bounds-shares-j
-bounds-shares-j c =
-    (taking_here c.args.book c.args.side c.args.price c.args.fill.number c.args.fill.taker (vec_items c.loop-i.self.orders) c.args.shares.now c.loop-i.i c.loop-i.j c.index.result.now (omega arith)
-    (sym (ap (in_level c.args.book c.args.side c.args.price) c.index.ensures) ∙ sym c.if-in_level.ensures) c.loop-i.invariant.0.below).0
-
-pub offset_bounds-shares-j : goal.offset_bounds-shares-j
-offset_bounds-shares-j c =
-    let h = (taking_here c.args.book c.args.side c.args.price c.args.fill.number c.args.fill.taker (vec_items c.loop-i.self.orders) c.args.shares.now c.loop-i.i c.loop-i.j c.index.result.now (omega arith)
-    (sym (ap (in_level c.args.book c.args.side c.args.price) c.index.ensures) ∙ sym c.if-in_level.ensures) c.loop-i.invariant.0.below).0 in
-    search rules
-
-pub reduce-requires : goal.reduce-requires
-reduce-requires c =
-    let os = vec_items c.loop-i.self.orders in
-    let o = c.index.result.now in
-    let lt : c.loop-i.i < length os = omega arith in
-    let h = (taking_here c.args.book c.args.side c.args.price c.args.fill.number c.args.fill.taker os c.args.shares.now c.loop-i.i c.loop-i.j o lt
-    (sym (ap (in_level c.args.book c.args.side c.args.price) c.index.ensures) ∙ sym c.if-in_level.ensures) c.loop-i.invariant.0.below).1 in
-    record { within = omega arith; enough = λ d. subst (λ (x : Order). get_or c.args.shares.now c.loop-i.j 0 ≤ quantity_of x) (get_or_default os c.loop-i.i o d lt) h }
+use Rattle.book.proofs.resting.Resting.take_shares.Goals.{then-holds, else-holds}
 
 pub loop-i-preserved : goal.loop-i-preserved
 loop-i-preserved c =
+    let fill = c.args.fill in
     let os₀ = vec_items c.args.self.now.orders in
     let os = vec_items c.loop-i.self.orders in
     let ks = c.args.shares.now in
+    let ls = c.loop-i.left.rest.now in
     let k = c.loop-i.i in
-    let j = c.loop-i.j in
     let o = c.index.result.now in
     let lt : k < length os = omega arith in
-    let is : in_level c.args.book c.args.side c.args.price (get_or os k o) ≡ c.in_level.result = sym (ap (in_level c.args.book c.args.side c.args.price) c.index.ensures) ∙ sym c.in_level.ensures in
-    elim c.if-in_level.branch [
-      | then-in_level w ↦
-          let it : vec_items c.if-in_level.self.orders ≡ set os k (less (get_or os k o) (get_or ks j 0)) = ap (λ (b : Resting). vec_items b.orders) w.self-is ∙ w.reduce.ensures.orders o in
-          let row : w.trade_row.result ≡ trade_row c.args.fill.number c.args.fill.taker (get_or os k o) (get_or ks j 0) = w.trade_row.ensures ∙ ap (λ (x : Order). trade_row c.args.fill.number c.args.fill.taker x (get_or ks j 0)) c.index.ensures in
-          let new : RowsMore c.loop-i.written c.loop-i.report (some_row (get_or ks j 0) (trade_row c.args.fill.number c.args.fill.taker (get_or os k o) (get_or ks j 0))) w.push_some.new.self w.push_some.new.report =
-          subst (λ (r : Row). RowsMore c.loop-i.written c.loop-i.report (some_row r.quantity r) w.push_some.new.self w.push_some.new.report) row w.push_some.ensures in (
-            rw (it, w.j-is, w.written-is, w.report-is) (taking_yes c.args.book c.args.side c.args.price c.args.fill.number c.args.fill.taker os₀ os ks c.args.written.now c.args.report.now c.loop-i.written c.loop-i.report k j o lt c.loop-i.invariant.0 (is ∙ w.if-in_level.true) w.push_some.new.self w.push_some.new.report new),
+    let is : faces fill.taker fill.price (get_or os k o) ≡ c.holds.result = sym (c.holds.ensures ∙ ap (λ (p : Place). in_level p.book p.side p.price o) c.place-place.ensures ∙ ap (faces fill.taker fill.price) c.index.ensures) in
+    elim c.if-holds.branch [
+      | then-holds w ↦
+          let x = w.unwrap-taken.result.now in
+          let here = get_or os k o in
+          let it : vec_items c.if-holds.self.orders ≡ set os k (less here x) = ap (λ (b : Resting). vec_items b.orders) w.self-is ∙ w.reduce.ensures.orders o in
+          let row : w.trade_row.result ≡ trade_row fill.number fill.taker.number here x = w.trade_row.ensures ∙ ap (λ (y : Order). trade_row fill.number fill.taker.number y x) c.index.ensures in
+          let new : Tells c.loop-i.told (some_row x (trade_row fill.number fill.taker.number here x)) w.push_some.new.self = subst (λ (r : Row). Tells c.loop-i.told (some_row r.quantity r) w.push_some.new.self) row w.push_some.ensures in (
+            rw (it, w.left-is, w.told-is) (taking_yes fill os₀ os ks c.args.told.now c.loop-i.told k ls o lt c.loop-i.invariant.0 (is ∙ w.if-holds.true) x w.next.new.self.rest.now (MatchOption-at_some _ _ w.unwrap-taken.result w.unwrap-taken.ensures w.next.ensures.steps) w.push_some.new.self new),
             ap (λ (b : Resting). vec_capacity b.orders) w.self-is ∙ w.reduce.ensures.capacity ∙ c.loop-i.invariant.1,
-            omega arith,
           )
-      | else-in_level w ↦ (
-        rw (w.self-is, w.j-is, w.written-is, w.report-is) (taking_no c.args.book c.args.side c.args.price c.args.fill.number c.args.fill.taker os₀ os ks c.args.written.now c.args.report.now c.loop-i.written c.loop-i.report k j o lt c.loop-i.invariant.0 (is ∙ w.if-in_level.false)),
+      | else-holds w ↦ (
+        rw (w.self-is, w.left-is, w.told-is) (taking_no fill os₀ os ks c.args.told.now c.loop-i.told k ls o lt c.loop-i.invariant.0 (is ∙ w.if-holds.false)),
         ap (λ (b : Resting). vec_capacity b.orders) w.self-is ∙ c.loop-i.invariant.1,
-        omega arith,
       )
     ]
-
-pub returns : goal.returns
-returns c =
-    let t = taking_end c.args.book c.args.side c.args.price c.args.fill.number c.args.fill.taker (vec_items c.args.self.now.orders) (vec_items c.loop-i.self.orders) c.args.shares.now c.args.written.now c.args.report.now c.loop-i.written c.loop-i.report c.loop-i.i c.loop-i.j (omega arith) c.loop-i.invariant.0 in
-    record { orders = t.0; rows = t.1; capacity = c.loop-i.invariant.1 }

@@ -1,26 +1,31 @@
-use Rattle.std.proofs.Common.{◌++◌, refl, ap, ◌∙◌, arith}
-use Rattle.console.specs.Lines.{before_newline}
-use Rattle.console.specs.Cuts.{start, kept}
-use Rattle.console.proofs.Newlines.{before_le, part_before, less_found, used_is}
+use Rattle.std.proofs.Common.{◌+◌, ◌++◌, cond, length, take, sym, refl, ap, ◌∙◌, add-zero}
+use Rattle.console.specs.Cuts.{start, pending}
+use Rattle.console.proofs.Newlines.{before_all, found_at, none_at, take_before}
 use Rattle.console.proofs.cutter.LineCutter.cut.Goals as goal
 
-pub slice_bounds-keep-end : goal.slice_bounds-keep-end
-slice_bounds-keep-end c = omega (arith, before_le c.args.block.now)
-
-pub past-requires : goal.past-requires
-past-requires c = omega (arith, before_le c.args.block.now)
-
-pub returns : goal.returns
-returns c =
+pub returns-in-Some : goal.returns-in-Some
+returns-in-Some c =
     let block = c.args.block.now in
-    let n = c.line_length-n.result in
-    let e = c.line_length-n.ensures in
+    let f = found_at block c.in-Some.n (sym c.newline.ensures ∙ c.in-Some.is) in
     record {
-      closed = less_found block n e;
-      count = used_is block n e c.past.ensures;
+      closed = sym f.0;
+      count = λ i. f.1 i + cond (sym f.0 i) 1 0;
       line = c.keep.ensures.items
-          ∙ ap (λ t. start (kept c.begin.new.self ++ t)) (part_before block n e)
-          ∙ ap (λ p. start (p ++ before_newline block)) c.begin.ensures.items;
+          ∙ (λ i. start (c.begin.ensures.items i ++ take (f.1 i) block))
+          ∙ ap (λ t. start (pending c.args.self.now ++ t)) (take_before block);
       state = refl;
       memory = c.keep.ensures.capacity ∙ c.begin.ensures.capacity;
+    }
+
+pub returns-in-None : goal.returns-in-None
+returns-in-None c =
+    let block = c.args.block.now in
+    let f = none_at block (sym c.newline.ensures ∙ c.in-None.is) in
+    let all = sym (before_all block f) in
+    record {
+      closed = sym f;
+      count = sym (add-zero (length block)) ∙ (λ i. length (all i) + cond (sym f i) 1 0);
+      line = c.keep-in-None.ensures.items ∙ (λ i. start (c.begin.ensures.items i ++ all i));
+      state = refl;
+      memory = c.keep-in-None.ensures.capacity ∙ c.begin.ensures.capacity;
     }

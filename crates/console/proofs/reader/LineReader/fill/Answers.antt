@@ -1,42 +1,32 @@
-use Rattle.std.proofs.Common.{◌≡◌, Bool, false, [], vec_items, sym, subst}
-use Rattle.std.proofs.lemmas.Result.{IfOk-weaker, IfOk-from_err}
-use Rattle.console.specs.Reading.{Stands, Keeps, Breaks, AtEnd}
-use Rattle.console.proofs.Breaking.{refused_any, refused_then}
+use Rattle.std.proofs.Common.{◌≡◌, ◌-◌, ◌∷◌, length, take, drop, vec_len, vec_items, sym, ap, ◌∙◌, subst, arith}
+use mathlib.Core.Path.{transport}
+use Rattle.std.proofs.lemmas.List.{with_items_is}
+use Rattle.console.specs.Reading.{unread, Stands}
+use Rattle.console.specs.Wires.{Took, Gave}
+use Rattle.console.proofs.Breaking.{refused_any, broken_writing}
+use Rattle.console.proofs.Standing.{none_unread, front_unread, read_keeps}
+use Rattle.console.proofs.reader.LineReader.fill.Goals.{then-self+in_ok-n, else-self}
 use Rattle.console.proofs.reader.LineReader.fill.Goals as goal
 
-pub returns : goal.returns
-returns g c =
+pub returns-in_err-n-clause-failed : goal.returns-in_err-n-clause-failed
+returns-in_err-n-clause-failed g c = refused_any c.from_residual.result _ (λ rules used text ready s. broken_writing used text ready.reply s (g.W.Wire.log c.read.new.self.wire.now) c.in_err-n.ensures.failed)
+
+pub returns-clause-keeps : goal.returns-clause-keeps
+returns-clause-keeps g c =
     let log = g.W.Wire.log in
     let reader = c.args.self.now in
-    let reader' = c.read_block.new.self in
-    let log₁ = log c.flush.new.wire in
-    let log' = log c.read_block.new.wire in
-    let over = g.W.Wire.over c.read_block.new.wire in
-    let out = vec_items c.flush.new.out in
-    let flushed = c.in_ok-flush.ensures in
-    record {
-      keeps = IfOk-weaker c.read_block.result
-          (λ _. Keeps log₁ reader [] log' reader' [])
-          (λ _. Keeps (log c.args.wire.now) reader (vec_items c.args.out.now) log' reader' out)
-          (λ _ k rules used text reply s. subst (λ o. Keeps log₁ reader o log' reader' o) (sym flushed.empty) k rules used text reply (flushed.keeps rules reader used text s))
-          c.read_block.ensures.keeps;
-      ended = IfOk-weaker c.read_block.result
-          (λ (more : Bool). more ≡ false → AtEnd over reader' [])
-          (λ (more : Bool). more ≡ false → AtEnd over reader' out)
-          (λ _ e is. subst (AtEnd over reader') (sym flushed.empty) (e is))
-          c.read_block.ensures.ended;
-      some = c.read_block.ensures.some;
-      failed = refused_then c.read_block.result (Breaks log₁ reader [] log') (Breaks (log c.args.wire.now) reader (vec_items c.args.out.now) log')
-          (λ b rules used text ready s. b rules used text ready (subst (λ o. Stands rules log₁ reader o used text) flushed.empty (flushed.keeps rules reader used text s)))
-          c.read_block.ensures.failed;
-    }
-
-pub returns-in_err-flush : goal.returns-in_err-flush
-returns-in_err-flush g c =
-    let err = c.from_residual.ensures.0 in
-    record {
-      keeps = IfOk-from_err c.from_residual.result _ err;
-      ended = IfOk-from_err c.from_residual.result _ err;
-      some = IfOk-from_err c.from_residual.result _ err;
-      failed = refused_any c.from_residual.result _ (λ rules used text ready s. c.in_err-flush.ensures.failed rules c.args.self.now used text ready.reply s);
-    }
+    let wire = c.args.wire.now in
+    elim c.if-self.branch [
+      | then-self+in_ok-n w ↦
+          let n = w.in_ok-n.n in
+          let block = w.read.new.block in
+          let read = w.in_ok-n.ensures in
+          let long : length block ≡ vec_len reader.block = omega arith in
+          read_keeps log reader c.if-self.self wire c.if-self.wire (take n block)
+          (none_unread reader w.if-self.true)
+          (ap unread w.self-is ∙ ap (λ xs. take (n - 0) (drop 0 xs)) (with_items_is reader.block block long) ∙ front_unread n block)
+          (ap (λ r. r.cutter) w.self-is)
+          (ap (λ x. vec_items x.text) w.wire-is ∙ read.empty)
+          (λ events l. subst (λ x. log x.wire.now (Took (take n block) ∷ Gave (vec_items wire.text) ∷ events)) (sym w.wire-is) (read.logged events l))
+      | else-self w ↦ λ rules used text ready s. transport (λ i. Stands rules log (sym w.self-is i) (sym w.wire-is i) used text) s
+    ]

@@ -1,0 +1,22 @@
+use Rattle.std.proofs.Common.{◌≡◌, ap, length, subst, sym, vec_items, arith}
+use Rattle.market.specs.Levels.{after_fill}
+use Rattle.market.proofs.Asking.{bounded_after_fill}
+use Rattle.book.specs.Bounds.{Small, Positive}
+use Rattle.book.specs.Facing.{faces}
+use Rattle.book.proofs.Bounds.{positive_after, within_bounds}
+use Rattle.book.proofs.orders.Orders.trade.Goals as goal
+
+pub invariant_of-self : goal.invariant_of-self
+invariant_of-self c =
+    let old = c.args.self.now in
+    let os = vec_items old.inner.orders in
+    let test = faces c.args.fill.taker c.args.fill.price in
+    let ks = c.args.shares.now in
+    let is : vec_items c.trade.new.self.orders ≡ after_fill test os ks = c.trade.ensures.orders in
+    let kept = bounded_after_fill test os ks (within_bounds old) in
+    record {
+      small = subst Small (sym is) kept.small;
+      positive = subst Positive (sym is) (positive_after test os ks);
+      few = omega (arith, c.trade.new.self.orders.ok.0, ap length is, kept.few);
+      room = omega (arith, c.trade.ensures.capacity, old.room);
+    }
