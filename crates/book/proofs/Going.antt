@@ -1,4 +1,4 @@
--- A match on its way: whatever it goes on to, the whole is a match from the start.
+-- A match so far: whatever it goes on to, the whole is a match from the start.
 use Rattle.std.proofs.Common.{◌≡◌, ℕ, ◌+◌, ◌-◌, ◌<◌, true, List, [], ◌++◌, sym, subst}
 use Rattle.std.proofs.lemmas.List.{append_assoc, append-nil}
 use Rattle.market.specs.declared.order.Order.{Order}

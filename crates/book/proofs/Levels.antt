@@ -1,11 +1,12 @@
 -- A loop that reads a level, and one that finds the best price.
-use Rattle.std.proofs.Common.{◌≡◌, ℕ, ◌+◌, ◌<◌, Bool, true, false, cond, List, [], ◌∷◌, ◌++◌, map, length, get_or, take, pos, Some, None, filter, Option, sym, refl, ◌∙◌, subst, arith}
+use Rattle.std.proofs.Common.{◌≡◌, ℕ, ◌+◌, ◌<◌, Bool, true, false, cond, List, [], ◌∷◌, ◌++◌, map, length, get_or, take, pos, Some, None, filter, Option, Bor, sym, refl, ap, ◌∙◌, subst, arith}
 use Rattle.std.proofs.lemmas.List.Elements.{All-nil, All-push, filter_more}
 use Rattle.std.proofs.lemmas.List.Quantifiers.{Any-push}
 use Rattle.std.proofs.lemmas.List.{map-append, append-nil, append_assoc, length-append, get_or_append_left}
 use Rattle.std.proofs.lemmas.Int.{ints}
 use Rattle.std.proofs.lemmas.Bool.{both_ways, cond_both}
 use Rattle.std.specs.List.{fold, All, Any}
+use Rattle.std.specs.Option.{MatchOption}
 use Rattle.rules.specs.Domain.{total}
 use Rattle.market.specs.declared.book_id.BookId.{BookId}
 use Rattle.market.specs.declared.order.Lot.TheVariants.{Outright}
@@ -16,7 +17,7 @@ use Rattle.market.specs.declared.side.Side.TheVariants.{Buy, Sell}
 use Rattle.market.specs.Levels.{in_level, level, quantities, Best}
 use Rattle.market.specs.Orders.{stands, quantity_of}
 use Rattle.market.specs.Prices.{opposite, good}
-use Rattle.book.specs.Best.{better_of, best_of}
+use Rattle.book.specs.Best.{better, best_among, best_of}
 
 -- the order that a read past the end would give
 abbrev pub no_order : Order
@@ -42,6 +43,20 @@ read_more b s p os k d qs qs' lt h e =
     go false = sym (append-nil qs)
 
 -- ---- the best price
+
+-- the better of a price and one that may be there
+abbrev better_of : Side → Option Price → Price → Option Price
+better_of s None p = Some p
+better_of s (Some q) p = Some (better s q p)
+
+-- the scan that begins with the first price is the scan that begins with none
+from_first : (s : Side) (q : Price) (ps : List Price) → fold (better_of s) (Some q) ps ≡ Some (fold (better s) q ps)
+from_first s q [] = refl
+from_first s q (p ∷ ps) = from_first s (better s q p) ps
+
+from_none : (s : Side) (ps : List Price) → fold (better_of s) None ps ≡ best_among s ps
+from_none s [] = refl
+from_none s (p ∷ ps) = from_first s p ps
 
 -- the best price, or none where the opposite side is empty
 abbrev pub BestFound : BookId → Side → List Order → Option Price → Type 0
@@ -111,4 +126,25 @@ module _ (b : BookId) (s : Side) where
 
   -- a scan finds the best price
   pub best_found : (os : List Order) → BestFound b s os (best_of b s os)
-  best_found os = best_onward [] None os (All-nil _)
+  best_found os = subst (BestFound b s os) (from_none s (opposed os)) (best_onward [] None os (All-nil _))
+
+-- ---- a scan by references
+
+-- the prices of the orders that pass, read through references
+pub prices_through : (test : Order → Bool) (rs : List (Bor Order)) → map (λ o. o.now.price) (filter (λ o. test o.now) rs) ≡ map (λ o. o.price) (filter test (map (λ o. o.now) rs))
+prices_through test [] = refl
+prices_through test (r ∷ rs) = go (test r.now) (prices_through test rs)
+  where
+    go : (b : Bool) → map (λ o. o.now.price) (filter (λ o. test o.now) rs) ≡ map (λ o. o.price) (filter test (map (λ o. o.now) rs))
+        → map (λ o. o.now.price) (cond b (r ∷ filter (λ o. test o.now) rs) (filter (λ o. test o.now) rs)) ≡ map (λ o. o.price) (cond b (r.now ∷ filter test (map (λ o. o.now) rs)) (filter test (map (λ o. o.now) rs)))
+    go true h = ap (λ (ps : List Price). r.now.price ∷ ps) h
+    go false h = h
+
+-- a reduction by the better of two prices gives the best
+pub best_reduced : (s : Side) (ps : List Price) (n : ℕ) (r : Option Price) (P : Price → Type 0) → n ≡ length ps → MatchOption r (n ≡ 0) P
+    → ((y : Price) → P y → (x : Price) × (xs : List Price) × (ps ≡ x ∷ xs) × (y ≡ fold (better s) x xs)) → r ≡ best_among s ps
+best_reduced s [] n None P long h says = refl
+best_reduced s (p ∷ ps) n None P long h says = absurd (omega (arith, long, h))
+best_reduced s ps n (Some y) P long h says =
+    let is = says y h in
+    ap Some is.3 ∙ sym (ap (best_among s) is.2)

@@ -6,4 +6,3 @@ pub mod Going
 pub mod Settling
 pub mod Closing
 pub mod Finding
-pub mod Leaving

@@ -1,5 +1,6 @@
 pub mod Bounds
 pub mod Best
+pub mod Held
 pub mod Facing
 pub mod Reports
 pub mod Matched

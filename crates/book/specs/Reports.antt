@@ -1,4 +1,4 @@
--- A report on its way: the rows that a call has told so far.
+-- The report of a call: the rows told so far.
 use Rattle.std.specs.Prelude.{◌≡◌, ◌-◌, ◌<◌, ◌≤◌, List, ◌++◌, length}
 use Rattle.std.specs.Option.{MatchOption}
 use Rattle.market.specs.declared.row.Row.{Row}

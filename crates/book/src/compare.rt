@@ -9,7 +9,7 @@ use market::order::Order;
 use market::price::Price;
 use market::side::Side;
 
-// The other side; an operator for it would be no plainer.
+// The other side. Its natural form is a method, but `Side` is the market's: one more public promise there.
 pub(crate) fn opposite(side: Side) -> Side
     ensures { result ≡ opposite side }
 {

@@ -2,7 +2,8 @@
 ghost use Rattle.std.specs.Prelude.{◌≡◌, length};
 ghost use Rattle.rules.specs.Domain.{total};
 ghost use Rattle.market.specs.Levels.{level, quantities};
-ghost use Rattle.book.specs.Best.{better_of, best_of};
+ghost use Rattle.book.specs.Best.{better, best_of};
+ghost use Rattle.book.specs.Held.{held};
 
 use crate::compare::{good, opposite, stands};
 use crate::lot::lot_size;
@@ -18,26 +19,26 @@ use market::side::Side;
 #[derive(Clone, Copy)]
 pub(crate) struct Level {
     pub total: u32,
-    // no caller asks for it; it stays, as the project wants a reading to promise the count as well
+    // no caller reads it: docs/DECISIONS.md asks for it
     pub count: usize,
 }
 
 // Reads one level: collects its quantities, in book order, sums them and counts them.
 pub(crate) fn read_level(orders: &Orders, place: Place, scratch: &mut Scratch) -> Level
-    ensures total { result.total ≡ total (quantities (level place.book place.side place.price orders.now.inner.orders.items)) }
-    ensures count { result.count ≡ length (quantities (level place.book place.side place.price orders.now.inner.orders.items)) }
-    ensures collected { scratch.new.quantities.items ≡ quantities (level place.book place.side place.price orders.now.inner.orders.items) }
+    ensures total { result.total ≡ total (quantities (level place.book place.side place.price (held orders.now))) }
+    ensures count { result.count ≡ length (quantities (level place.book place.side place.price (held orders.now))) }
+    ensures collected { scratch.new.quantities.items ≡ quantities (level place.book place.side place.price (held orders.now)) }
 {
     let orders = orders.as_slice();
     scratch.quantities.clear();
     let mut total: u32 = 0;
-    // By index: one loop over the book's slice with an index is a form asked for.
+    // By index: docs/DECISIONS.md asks for it.
     for i in 0..orders.len() {
         let order = orders[i];
         if place.holds(&order) {
             let quantity = lot_size(order.lot);
             total += quantity;
-            scratch.quantities.push_reserved(quantity);
+            scratch.quantities.push(quantity);
         }
     }
     Level {
@@ -46,14 +47,11 @@ pub(crate) fn read_level(orders: &Orders, place: Place, scratch: &mut Scratch) -
     }
 }
 
-// The better of a price and one that may be there; of two equal ones, the one that was there.
-fn better_of(side: Side, best: Option<Price>, p: Price) -> Option<Price>
-    ensures { result ≡ better_of side best p }
+// The better of two prices; of two equal ones, the first.
+fn better(side: Side, q: Price, p: Price) -> Price
+    ensures { result ≡ better side q p }
 {
-    Some(match best {
-        Some(q) if good(side, q, p) => q,
-        _ => p,
-    })
+    if good(side, q, p) { q } else { p }
 }
 
 // The best price to one who trades on `side`, where the other side has any order.
@@ -65,5 +63,5 @@ pub(crate) fn best_price(orders: &[Order], book: BookId, side: Side) -> Option<P
         .iter()
         .filter(|order| stands(order, book, facing))
         .map(|order| order.price)
-        .fold(None, |best, price| better_of(side, best, price))
+        .reduce(|best, price| better(side, best, price))
 }

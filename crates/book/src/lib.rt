@@ -3,6 +3,8 @@
 
 pub mod book;
 mod compare;
+mod draft;
+mod entering;
 mod fill;
 mod level;
 mod lot;

@@ -24,7 +24,8 @@ use std::alloc::{AllocError, Global};
 // The most orders that rest at once.
 pub(crate) const MOST_ORDERS: usize = 256;
 
-// Its memory is taken once, when it is made; within a fill the facts may be broken.
+// Its memory is taken once, when it is made; within a fill an order may have nothing open, so `positive` fails there.
+// A `Vec`, as 256 orders in place would be moved with each book.
 #[derive(Drop)]
 pub(crate) struct Orders {
     inner: Resting,
@@ -41,8 +42,10 @@ fn own(order: &Order, id: OrderId) -> bool
 }
 
 impl Orders {
+    ghost use Rattle.book.specs.Held.{held};
+
     pub(crate) fn new(heap: Global) -> Result<Orders, AllocError>
-        ensures { IfOk result (λ b. b.inner.orders.items ≡ []) }
+        ensures { IfOk result (λ b. held b ≡ []) }
     {
         let orders = Vec::with_capacity(heap, MOST_ORDERS)?;
         Ok(Orders {
@@ -51,14 +54,14 @@ impl Orders {
     }
 
     pub(crate) fn as_slice(&self) -> &[Order]
-        ensures { result.now ≡ self.now.inner.orders.items }
+        ensures { result.now ≡ held self.now }
     {
         self.inner.orders.as_slice()
     }
 
-    // Takes over what another holds, in the memory that it has.
+    // Takes over what another holds, in the memory that it has: no call takes memory, so this is no `clone`.
     pub(crate) fn copy_from(&mut self, from: &Orders)
-        ensures { self.new.inner.orders.items ≡ from.now.inner.orders.items }
+        ensures { held self.new ≡ held from.now }
     {
         self.inner.orders.clear();
         self.inner
@@ -69,52 +72,50 @@ impl Orders {
 
     // Where the participant's order of that number stands, quotes apart.
     pub(crate) fn find_own(&self, id: OrderId) -> Option<usize>
-        ensures { result ≡ position (own id.participant id.number) self.now.inner.orders.items }
+        ensures { result ≡ position (own id.participant id.number) (held self.now) }
     {
         self.as_slice().iter().position(|order| own(order, id))
     }
 
     // An order rests, as the last.
     pub(crate) fn push(&mut self, order: Order)
-        requires few { vec_len self.old.inner.orders < 256 }
+        requires few { length (held self.old) < 256 }
         requires small { quantity_of order ≤ 10000 }
         requires positive { 0 < quantity_of order }
-        ensures { self.new.inner.orders.items ≡ self.old.inner.orders.items ++ order ∷ [] }
+        ensures { held self.new ≡ held self.old ++ order ∷ [] }
     {
         self.inner.orders.push_reserved(order);
     }
 
     pub(crate) fn remove(&mut self, i: usize) -> Order
-        requires { i < vec_len self.old.inner.orders }
-        ensures order { result ≡ slice_index_or self.old.inner.orders.items i result }
-        ensures others { self.new.inner.orders.items ≡ remove self.old.inner.orders.items i }
+        requires { i < length (held self.old) }
+        ensures order { result ≡ slice_index_or (held self.old) i result }
+        ensures others { held self.new ≡ remove (held self.old) i }
     {
         self.inner.orders.remove(i)
     }
 
-    // One fill of a level, by the shares that its orders have in it.
+    // One fill of a level, by the shares that its orders have in it; those with nothing open then leave.
     pub(crate) fn trade(&mut self, fill: Fill, shares: &[u32], told: &mut Told<'_>)
-        requires { Below shares.now (quantities (facing fill.taker fill.price self.old.inner.orders.items)) }
-        ensures orders { self.new.inner.orders.items ≡ after_fill (faces fill.taker fill.price) self.old.inner.orders.items shares.now }
-        ensures rows { Tells told.old (fill_rows fill.number fill.taker.number (facing fill.taker fill.price self.old.inner.orders.items) shares.now) told.new }
+        requires { Below shares.now (quantities (facing fill.taker fill.price (held self.old))) }
+        ensures orders { held self.new ≡ after_fill (faces fill.taker fill.price) (held self.old) shares.now }
+        ensures rows { Tells told.old (fill_rows fill.number fill.taker.number (facing fill.taker fill.price (held self.old)) shares.now) told.new }
     {
-        self.inner.trade(fill, shares, told);
+        self.inner.take_shares(fill, shares, told);
+        self.inner.drop_spent();
     }
 
     // Writes a row for each order that leaves, in book order, and keeps the others; gives back how many leave.
     pub(crate) fn take_out(&mut self, which: Withdrawal, told: &mut Told<'_>) -> u32
-        ensures count { result ≡ length (filter (leaves which) self.old.inner.orders.items) }
-        ensures orders { self.new.inner.orders.items ≡ filter (λ o. not (leaves which o)) self.old.inner.orders.items }
-        ensures rows { Tells told.old (map cancel_row (filter (leaves which) self.old.inner.orders.items)) told.new }
+        ensures count { result ≡ length (filter (leaves which) (held self.old)) }
+        ensures orders { held self.new ≡ filter (λ o. not (leaves which o)) (held self.old) }
+        ensures rows { Tells told.old (map cancel_row (filter (leaves which) (held self.old))) told.new }
     {
-        let mut count = 0;
-        for order in self.as_slice() {
-            if leaves(which, order) {
-                told.push(cancel_row(order));
-                count += 1;
-            }
+        let before = self.as_slice().len();
+        for order in self.as_slice().iter().filter(|order| leaves(which, order)) {
+            told.push(cancel_row(order));
         }
         self.inner.orders.retain(|order| !leaves(which, order));
-        count
+        (before - self.as_slice().len()) as u32
     }
 }

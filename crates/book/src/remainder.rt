@@ -1,35 +1,21 @@
 // What becomes of what an arriving order did not trade.
-ghost use Rattle.std.specs.Prelude.{◌≡◌, ◌≤◌};
-ghost use Rattle.market.specs.Orders.{sized, arriving};
+ghost use Rattle.std.specs.Prelude.{◌≡◌, ◌≤◌, ℕ};
+ghost use Rattle.market.specs.declared.arrival.Arrival.{Arrival};
+ghost use Rattle.market.specs.Orders.{quantity_of, sized, arriving};
+ghost use Rattle.book.specs.Held.{held};
 ghost use Rattle.book.specs.Settling.{Settles};
 
-use crate::lot::sized_lot;
+use crate::draft::Draft;
+use crate::entering::Entering;
+use crate::lot::{lot_size, sized_lot};
 use crate::orders::{MOST_ORDERS, Orders};
 use crate::rows::cancel_row;
 use crate::told::Told;
-use market::arrival::Arrival;
 use market::call::Duration;
-use market::order::{Lot, Order};
+use market::order::Order;
 use market::refusal::{Refusal, refuse};
 
-// An arriving order under the number that it is given.
-pub(crate) fn arriving(arrival: Arrival, number: u32) -> Order
-    ensures { result ≡ arriving arrival number }
-{
-    Order {
-        number,
-        participant: arrival.participant,
-        side: arrival.side,
-        price: arrival.price,
-        lot: Lot::Outright {
-            instrument: arrival.instrument,
-            quantity: arrival.quantity,
-        },
-        quote: false,
-    }
-}
-
-// The order with another quantity.
+// The order with another quantity; no method, as `Order` is the market's: one more public promise there.
 fn sized(order: Order, quantity: u32) -> Order
     ensures { result ≡ sized order quantity }
 {
@@ -39,41 +25,42 @@ fn sized(order: Order, quantity: u32) -> Order
     }
 }
 
-// Lets what is left of an order rest, or cancels it; gives back what the order has traded.
-pub(crate) fn settle(
-    before: &Orders,
-    draft: &mut Orders,
-    arrival: Arrival,
-    number: u32,
-    left: u32,
-    told: &mut Told<'_>,
-) -> Result<u32, Refusal>
-    requires quantity { arrival.quantity.0 ≤ 10000 }
-    requires left { left ≤ arrival.quantity.0 }
-    ensures { Settles before.now.inner.orders.items number arrival left draft.old.inner.orders.items told.old result draft.new.inner.orders.items told.new }
-{
-    let order = arriving(arrival, number);
-    let quantity = arrival.quantity.0;
-    if left == 0 {
-        return Ok(quantity);
-    }
-    match arrival.duration {
-        Duration::Day => {
-            if draft.as_slice().len() >= MOST_ORDERS {
-                return refuse(told.rows, Refusal::BookFull);
+impl Draft {
+    // Lets what is left of an order rest, or cancels it; a fill-or-kill order with any left takes back its fills.
+    // Gives back what the order has traded.
+    pub(crate) fn settle(
+        &mut self,
+        before: &Orders,
+        entering: Entering,
+        left: u32,
+        told: &mut Told<'_>,
+    ) -> Result<u32, Refusal>
+        requires { left ≤ quantity_of entering.order }
+        ensures { (a : Arrival) (n : ℕ) → entering.order ≡ arriving a n → entering.duration ≡ a.duration → Settles (held before.now) n a left (held self.old.orders) told.old result (held self.new.orders) told.new }
+    {
+        let order = entering.order;
+        let quantity = lot_size(order.lot);
+        if left == 0 {
+            return Ok(quantity);
+        }
+        match entering.duration {
+            Duration::Day => {
+                if self.orders.as_slice().len() >= MOST_ORDERS {
+                    return refuse(told.rows, Refusal::BookFull);
+                }
+                self.orders.push(sized(order, left));
+                Ok(quantity - left)
             }
-            draft.push(sized(order, left));
-            Ok(quantity - left)
-        }
-        Duration::Immediate => {
-            told.push(cancel_row(&sized(order, left)));
-            Ok(quantity - left)
-        }
-        Duration::FillOrKill => {
-            draft.copy_from(before);
-            told.wipe();
-            told.push(cancel_row(&order));
-            Ok(0)
+            Duration::Immediate => {
+                told.push(cancel_row(&sized(order, left)));
+                Ok(quantity - left)
+            }
+            Duration::FillOrKill => {
+                self.orders.copy_from(before);
+                told.wipe();
+                told.push(cancel_row(&order));
+                Ok(0)
+            }
         }
     }
 }

@@ -4,7 +4,7 @@ ghost use Rattle.std.specs.Borrow.{sem, follows};
 ghost use Rattle.std.specs.Vec.{with_item};
 ghost use Rattle.market.specs.declared.order.Order.{Order as OrderT};
 ghost use Rattle.market.specs.contracts.order.Order.{the_row as order_row};
-ghost use Rattle.market.specs.Levels.{quantities, reduced, still_open, after_fill};
+ghost use Rattle.market.specs.Levels.{quantities, reduced, still_open};
 ghost use Rattle.market.specs.Lists.{Below};
 ghost use Rattle.market.specs.Matching.{facing};
 ghost use Rattle.market.specs.Orders.{quantity_of, less};
@@ -19,6 +19,7 @@ use crate::rows::trade_row;
 use crate::told::Told;
 use market::order::Order;
 
+// No ghost fields: docs/DECISIONS.md asks for it. So each function that changes the orders says that their capacity stays.
 #[derive(Drop)]
 pub(crate) struct Resting {
     pub orders: Vec<Order>,
@@ -52,7 +53,7 @@ impl Resting {
     }
 
     // Takes its share from each order of a level, and writes a row for each share that is not 0.
-    fn take_shares(&mut self, fill: Fill, shares: &[u32], told: &mut Told<'_>)
+    pub(crate) fn take_shares(&mut self, fill: Fill, shares: &[u32], told: &mut Told<'_>)
         requires { Below shares.now (quantities (facing fill.taker fill.price self.old.orders.items)) }
         ensures orders { self.new.orders.items ≡ reduced (faces fill.taker fill.price) self.old.orders.items shares.now }
         ensures rows { Tells told.old (fill_rows fill.number fill.taker.number (facing fill.taker fill.price self.old.orders.items) shares.now) told.new }
@@ -60,7 +61,7 @@ impl Resting {
     {
         let place = fill.place();
         let mut left = shares.iter();
-        // By index: the form asked for lends an order by its index.
+        // By index, as `lend` takes one: docs/DECISIONS.md asks for it.
         for i in 0..self.orders.len() {
             let order = self.orders[i];
             if place.holds(&order) {
@@ -71,14 +72,11 @@ impl Resting {
         }
     }
 
-    // One fill of a level, by the shares that its orders have in it: the orders with nothing open then leave.
-    pub(crate) fn trade(&mut self, fill: Fill, shares: &[u32], told: &mut Told<'_>)
-        requires { Below shares.now (quantities (facing fill.taker fill.price self.old.orders.items)) }
-        ensures orders { self.new.orders.items ≡ after_fill (faces fill.taker fill.price) self.old.orders.items shares.now }
-        ensures rows { Tells told.old (fill_rows fill.number fill.taker.number (facing fill.taker fill.price self.old.orders.items) shares.now) told.new }
+    // The orders with nothing open leave.
+    pub(crate) fn drop_spent(&mut self)
+        ensures orders { self.new.orders.items ≡ filter still_open self.old.orders.items }
         ensures capacity { vec_capacity self.new.orders ≡ vec_capacity self.old.orders }
     {
-        self.take_shares(fill, shares, told);
         self.orders.retain(still_open);
     }
 }

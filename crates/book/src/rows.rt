@@ -1,8 +1,9 @@
 // The rows of a call.
 ghost use Rattle.std.specs.Prelude.{◌≡◌};
+ghost use Rattle.market.specs.Orders.{lot_book, book_number};
+ghost use Rattle.market.specs.Prices.{opposite};
 ghost use Rattle.market.specs.Rows.{trade_row, cancel_row, buyer_of};
 
-use crate::compare::opposite;
 use crate::fill::Fill;
 use crate::lot::{lot_book, lot_size};
 use market::order::Order;
@@ -17,11 +18,8 @@ pub(crate) fn trade_row(fill: Fill, order: &Order, traded: u32) -> Row
     Row {
         kind: RowKind::Trade,
         fill: fill.number,
-        book: lot_book(order.lot).into(),
-        quantity: traded,
         price: order.price.into(),
-        buyer: buyer_of(order.side, order.number, fill.taker.number),
-        seller: buyer_of(opposite(order.side), order.number, fill.taker.number),
+        ..order_row(order, traded, fill.taker.number)
     }
 }
 
@@ -32,20 +30,27 @@ pub(crate) fn cancel_row(order: &Order) -> Row
     Row {
         kind: RowKind::Cancellation,
         fill: 0,
-        book: lot_book(order.lot).into(),
-        quantity: lot_size(order.lot),
         price: Amount(0),
-        buyer: buyer_of(order.side, order.number, 0),
-        seller: buyer_of(opposite(order.side), order.number, 0),
+        ..order_row(order, lot_size(order.lot), 0)
     }
 }
 
-// Of two orders, the one that buys: the first is on this side.
-fn buyer_of(side: Side, number: u32, other: u32) -> u32
-    ensures { result ≡ buyer_of side number other }
+// So many contracts of an order on its side, and the order of that number on the other.
+fn order_row(order: &Order, quantity: u32, other: u32) -> Row
+    ensures book { result.book ≡ book_number (lot_book order.now.lot) }
+    ensures quantity { result.quantity ≡ quantity }
+    ensures buyer { result.buyer ≡ buyer_of order.now.side order.now.number other }
+    ensures seller { result.seller ≡ buyer_of (opposite order.now.side) order.now.number other }
 {
-    match side {
-        Side::Buy => number,
-        Side::Sell => other,
+    let (buyer, seller) = match order.side {
+        Side::Buy => (order.number, other),
+        Side::Sell => (other, order.number),
+    };
+    Row {
+        book: lot_book(order.lot).into(),
+        quantity,
+        buyer,
+        seller,
+        ..Row::blank()
     }
 }

@@ -1,34 +1,35 @@
 // Two lists to work in.
-ghost use Rattle.std.specs.Prelude.{◌≡◌, ◌≤◌, vec_capacity};
+ghost use Rattle.std.specs.Prelude.{◌≡◌, ◌≤◌};
 ghost use Rattle.rules.specs.Domain.{Domain};
 
 use crate::orders::MOST_ORDERS;
+use arrayvec::ArrayVec;
 use rules::rule::AllocationRule;
-use std::alloc::{AllocError, Global};
 
-// A level's quantities, and their shares; side by side, as the rule's `divide`, a form asked for, takes two slices.
+// A level's quantities, and their shares. Two lists and no pairs, as `divide` takes two slices: docs/DECISIONS.md asks for it.
 #[derive(Drop)]
 pub(crate) struct Scratch {
-    pub quantities: Vec<u32>,
-    pub shares: Vec<u32>,
-    ghost room: { (256 ≤ vec_capacity quantities) × (256 ≤ vec_capacity shares) },
+    pub quantities: ArrayVec<u32, MOST_ORDERS>,
+    pub shares: ArrayVec<u32, MOST_ORDERS>,
 }
 
 impl Scratch {
-    pub(crate) fn new(heap: Global) -> Result<Scratch, AllocError> {
-        let quantities = Vec::with_capacity(heap, MOST_ORDERS)?;
-        let shares = Vec::with_capacity(heap, MOST_ORDERS)?;
-        Ok(Scratch { quantities, shares })
+    pub(crate) fn new() -> Scratch {
+        Scratch {
+            quantities: ArrayVec::new(),
+            shares: ArrayVec::new(),
+        }
     }
 
-    // Divides so much over the quantities, by the rule.
+    // Divides so much over the quantities, by the rule, which writes over as many shares.
     pub(crate) fn divide<R: AllocationRule>(&mut self, rule: &R, give: u32)
         requires { Domain self.old.quantities.items give }
         ensures { self.new.shares.items ≡ R.AllocationRule.shares rule.now self.old.quantities.items give }
     {
+        // As `Orders::copy_from`, but into a vector in place, which has a call of its own; no `clone`: it can fail just as this can, and moves all 256 places.
         self.shares.clear();
         self.shares
-            .extend_from_slice(self.quantities.as_slice())
+            .try_extend_from_slice(self.quantities.as_slice())
             .unwrap();
         rule.divide(self.quantities.as_slice(), give, self.shares.as_mut_slice());
     }

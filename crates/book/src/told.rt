@@ -1,4 +1,4 @@
-// A report on its way.
+// The report of a call, and how many of its rows are told.
 ghost use Rattle.std.specs.Prelude.{◌≡◌, [], ◌∷◌, length};
 ghost use Rattle.market.specs.Rows.{blank, some_row};
 ghost use Rattle.book.specs.Reports.{Holds, Tells};
@@ -6,6 +6,7 @@ ghost use Rattle.book.specs.Reports.{Holds, Tells};
 use market::row::Row;
 
 // The caller's report, and how many of its rows are told; none once more were told than it has.
+// The rows are the caller's slice, of any length, and a call takes no memory: so this is no vector.
 #[derive(Drop)]
 pub(crate) struct Told<'a> {
     pub rows: &'a mut [Row],
@@ -27,7 +28,7 @@ impl<'a> Told<'a> {
         told
     }
 
-    // Takes back all that was told.
+    // Takes back all that was told; no `refuse` of the market's, as the call may go on.
     pub(crate) fn wipe(&mut self)
         ensures same { self.new.rows.ghost_name ≡ self.old.rows.ghost_name }
         ensures blank { self.new.rows.now ≡ blank (length self.old.rows.now) }

@@ -3,13 +3,15 @@ use gate::build_error::BuildError;
 use line::gateway::Gateway;
 use market::refusal::RefusalCode;
 use rules::pro_rata::ProRata;
+use std::alloc::Global;
 use std::test::Fail;
 
 // The number of instruments, or the refusal's number, layer and place.
 type Answer = Result<u32, (u32, u32, u32)>;
 
-fn built(rt: &HostRuntime, line: &[u8]) -> Result<Answer, Fail> {
-    match Gateway::build(rt.alloc(), ProRata, line) {
+// The answer to a build line.
+fn built(heap: Global, line: &[u8]) -> Result<Answer, Fail> {
+    match Gateway::build(heap, ProRata, line) {
         Ok(opening) => Ok(Ok(opening.answer.0)),
         Err(BuildError::Refused(refusal)) => {
             let code = RefusalCode::from(refusal);
@@ -51,8 +53,9 @@ fn lines_refused(rt: HostRuntime) -> Result<(), Fail> {
         (b"F 1 1 1000000000", Err((2, 1, 3))),
         (b"F 2 0 9 8 05", Err((2, 1, 5))),
     ];
+    // As in the next test: a function for both would need the handle that may end the program, which no function takes.
     for (line, answer) in cases.iter() {
-        assert_eq!(rt; built(&rt, line)?, *answer);
+        assert_eq!(rt; built(rt.alloc(), line)?, *answer);
     }
     Ok(())
 }
@@ -78,7 +81,7 @@ fn bands_judged(rt: HostRuntime) -> Result<(), Fail> {
         (b"O 3 10 20 30 10 20 29", Err((3, 2, 4))),
     ];
     for (line, answer) in cases.iter() {
-        assert_eq!(rt; built(&rt, line)?, *answer);
+        assert_eq!(rt; built(rt.alloc(), line)?, *answer);
     }
     Ok(())
 }

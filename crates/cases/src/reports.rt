@@ -12,17 +12,15 @@ fn told(answer: Result<(u32, u32), Refusal>) -> Result<(u32, u32), u32> {
 
 // A venue in Continuous with a sell of two contracts at 5 and one at 6.
 fn opened(rt: &HostRuntime) -> Result<Gateway<PriceTime>, Fail> {
-    match Gateway::build(rt.alloc(), PriceTime, b"F 1 1 9") {
-        Err(_) => Err(Fail::new("no venue is built")),
-        Ok(opening) => {
-            let mut gateway = opening.gateway;
-            let mut report = [Row::blank(); 0];
-            let _ = gateway.call(b"P O", &mut report);
-            let _ = gateway.call(b"E 7 1 S 2 5 D", &mut report);
-            let _ = gateway.call(b"E 8 1 S 1 6 D", &mut report);
-            Ok(gateway)
-        }
-    }
+    let Ok(opening) = Gateway::build(rt.alloc(), PriceTime, b"F 1 1 9") else {
+        return Err(Fail::new("no venue is built"));
+    };
+    let mut gateway = opening.gateway;
+    let mut report = [Row::blank(); 0];
+    let _ = gateway.call(b"P O", &mut report);
+    let _ = gateway.call(b"E 7 1 S 2 5 D", &mut report);
+    let _ = gateway.call(b"E 8 1 S 1 6 D", &mut report);
+    Ok(gateway)
 }
 
 #[test]

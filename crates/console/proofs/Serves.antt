@@ -1,5 +1,5 @@
 -- From the build line and the answers after it to what a whole session writes.
-use Rattle.std.proofs.Common.{◌≡◌, ℕ, List, [], ◌∷◌, ◌++◌, OnOk, unwrap_or, Some, None, Ok, Err, Option, Result, vec_items, sym, ap, ◌∙◌, subst, arith}
+use Rattle.std.proofs.Common.{◌≡◌, ℕ, List, [], ◌∷◌, ◌++◌, OnOk, IfOk, Global, unwrap_or, Some, None, Ok, Err, Option, Result, vec_items, sym, ap, ◌∙◌, subst, arith}
 use mathlib.Core.Path.{transport}
 use Rattle.std.proofs.lemmas.List.{append-nil}
 use Rattle.market.specs.declared.product.Product.{Product}
@@ -26,6 +26,7 @@ use Rattle.console.specs.Text.{answer_text}
 use Rattle.console.specs.Wires.{Event, taken, given}
 use Rattle.console.proofs.Turns.{replied}
 use Rattle.console.proofs.Newlines.{closed_on}
+use Rattle.console.proofs.Standing.{found_as}
 
 -- two facts of a call that succeeds
 pub both_then : {X Y P Q S : Type 0} (r : Result X Y) → (P → Q → S) → OnOk r P → OnOk r Q → OnOk r S
@@ -54,19 +55,20 @@ pub record BuiltFirst {R : Type 0} (shares : R → List ℕ → ℕ → List ℕ
   pub rule_is : g.venue.rule ≡ rule
   pub written : out' ≡ out ++ answer_text (Ok answer)
 
-module _ {R : Type 0} (shares : R → List ℕ → ℕ → List ℕ) (rule : R) (head line out out' : List ℕ) (is : head ≡ start line) where
-  alike : build_line head ≡ build_line line
-  alike = ap build_line is ∙ same_verdict build_form line 1201 (omega arith)
+-- the start of a line asks for the same venue as the line
+alike : {head : List ℕ} (line : List ℕ) → head ≡ start line → build_line head ≡ build_line line
+alike line is = ap build_line is ∙ same_verdict build_form line 1201 (omega arith)
 
-  pub first_refused : BuildAnswered shares rule head out out' None → RefusedFirst line out out'
-  first_refused b = go b.built b.opens b.written b.gateway
+module _ {R : Type 0} {shares : R → List ℕ → ℕ → List ℕ} {rule : R} {head out out' : List ℕ} (line : List ℕ) (is : head ≡ start line) where
+  pub first_refused : {o : Option (Gateway R)} → o ≡ None → BuildAnswered shares rule head out out' o → RefusedFirst line out out'
+  first_refused none b = go b.built b.opens b.written (sym none ∙ b.gateway)
     where
       go : (r : Result (Opening R) Refusal) → Opens shares rule head (as_built r) → out' ≡ out ++ answer_text (build_answer r) → None ≡ opened_gateway r → RefusedFirst line out out'
       go (Ok o) opens w e = absurd (subst Nothing e tt)
-      go (Err e) opens w _ = record { e = e; refused = sym (ap build_refusal alike) ∙ opens; written = w }
+      go (Err e) opens w _ = record { e = e; refused = sym (ap build_refusal (alike line is)) ∙ opens; written = w }
 
-  pub first_built : (g : Gateway R) → BuildAnswered shares rule head out out' (Some g) → BuiltFirst shares rule line out out' g
-  first_built g b = go b.built b.opens b.written b.gateway
+  pub first_built : {o : Option (Gateway R)} {g : Gateway R} → o ≡ Some g → BuildAnswered shares rule head out out' o → BuiltFirst shares rule line out out' g
+  first_built {g = g} some b = go b.built b.opens b.written (sym some ∙ b.gateway)
     where
       go : (r : Result (Opening R) Refusal) → Opens shares rule head (as_built r) → out' ≡ out ++ answer_text (build_answer r) → Some g ≡ opened_gateway r → BuiltFirst shares rule line out out' g
       go (Err e) opens w s = absurd (subst Nothing (sym s) tt)
@@ -75,8 +77,8 @@ module _ {R : Type 0} (shares : R → List ℕ → ℕ → List ℕ) (rule : R) 
           let was = opens.1 in
           record {
             answer = o.answer;
-            accepted = sym (ap build_refusal alike) ∙ opens.0;
-            opened = subst (λ (x : Gateway R). Opened (shares rule) line o.answer (view x.venue)) same (record { request = was.request; says = sym alike ∙ was.says; stands = was.stands; answers = was.answers; reached = was.reached; sound = was.sound });
+            accepted = sym (ap build_refusal (alike line is)) ∙ opens.0;
+            opened = subst (λ (x : Gateway R). Opened (shares rule) line o.answer (view x.venue)) same (record { request = was.request; says = sym (alike line is) ∙ was.says; stands = was.stands; answers = was.answers; reached = was.reached; sound = was.sound });
             rule_is = ap (λ (x : Gateway R). x.venue.rule) (sym same) ∙ opens.2;
             written = w;
           }
@@ -142,8 +144,7 @@ served_all {log = log} {over} {s} rules shares v used text on all =
 -- the rule of the product that the start of a line names, or of any other where it names none, suits the line
 pub suits_named : (head line : List ℕ) (p other : Product) → head ≡ start line → p ≡ unwrap_or (product_named (build_line head)) other → Suits rule_for (rule_for p) line
 suits_named head line p other is named q e =
-    let alike : product_named (build_line head) ≡ product_named (build_line line) = ap product_named (ap build_line is ∙ same_verdict build_form line 1201 (omega arith)) in
-    ap rule_for (sym (named ∙ ap (λ o. unwrap_or o other) (alike ∙ e)))
+    ap rule_for (sym (named ∙ ap (λ o. unwrap_or o other) (ap product_named (alike line is) ∙ e)))
 
 -- a session begins with nothing read and nothing written
 module _ {W : Type 0} (log : W → List Event → Type 0) (s : Session W) (unread_none : unread s.reader ≡ []) (held_none : pending s.reader.cutter ≡ []) (empty : vec_items s.wire.text ≡ []) (l : log s.wire.wire.now []) where
@@ -154,12 +155,17 @@ module _ {W : Type 0} (log : W → List Event → Type 0) (s : Session W) (unrea
   pub broken_at_first : (w : BufferedWire W) → Breaks log s.reader s.wire w → BrokenOff rule_for (log w.wire.now)
   broken_at_first w b = b rule_for [] [] nothing_yet stands_first
 
-  -- what is found first
-  pub first_found : (over : W → Type 0) (line : Option (Bor (List ℕ))) (r : LineReader) (w : BufferedWire W) → Finds log over s.reader s.wire line r w → Next line rule_for log over r w [] []
-  first_found over line r w f = f rule_for [] [] nothing_yet stands_first
+  module _ (over : W → Type 0) {E : Type 0} {found : Result (Option (Bor (List ℕ))) E} {o : Option (Bor (List ℕ))} (was : found ≡ Ok o) (r : LineReader) (w : BufferedWire W) (finds : IfOk found (λ line. Finds log over s.reader s.wire line r w)) where
+    -- what is found first
+    first_found : (line : Option (Bor (List ℕ))) → o ≡ line → Next line rule_for log over r w [] []
+    first_found line is = found_as (λ x. Finds log over s.reader s.wire x r w) was is finds rule_for [] [] nothing_yet stands_first
 
-  -- the venue is built from the first line, under the rule of the product that the line names
-  pub from_first : (over : W → Type 0) (line : Bor (List ℕ)) (s' : Session W) (p other : Product) (Q : (Product → List ℕ → ℕ → List ℕ) → Type 0) → Finds log over s.reader s.wire (Some line) s'.reader s'.wire → p ≡ unwrap_or (product_named (build_line line.now)) other → FromFirst log (rule_for p) s' Q → Q rule_for
-  from_first over line s' p other Q found named q =
-      let m = first_found over (Some line) s'.reader s'.wire found in
-      q rule_for m.0.used' m.0.line (suits_named line.now m.0.line p other (m.1 ∙ m.0.head) named) m.0.stands m.0.lines m.0.head
+    -- no line is found
+    pub none_first : o ≡ None → Served rule_for (log w.wire.now) (over w.wire.now)
+    none_first is = served_none rule_for log over r w (first_found None is)
+
+    -- the venue is built from the first line, under the rule of the product that the line names
+    pub from_first : (h : Global) (line : Bor (List ℕ)) (p other : Product) (Q : (Product → List ℕ → ℕ → List ℕ) → Type 0) → o ≡ Some line → p ≡ unwrap_or (product_named (build_line line.now)) other → FromFirst log (rule_for p) (record { heap = h; reader = r; wire = w }) Q → Q rule_for
+    from_first h line p other Q is named q =
+        let m = first_found (Some line) is in
+        q rule_for m.0.used' m.0.line (suits_named line.now m.0.line p other (m.1 ∙ m.0.head) named) m.0.stands m.0.lines m.0.head

@@ -1,21 +1,25 @@
 -- How a session stands after each step of its reader.
-use Rattle.std.proofs.Common.{◌≡◌, ℕ, ◌+◌, ◌-◌, Bool, true, false, cond, List, [], ◌∷◌, ◌++◌, map, take, drop, vec_items, Ok, Result, IfOk, sym, refl, ap, ◌∙◌, subst, arith}
+use Rattle.std.proofs.Common.{◌≡◌, ℕ, ◌+◌, ◌-◌, true, false, cond, List, [], ◌∷◌, ◌++◌, map, length, take, drop, vec_items, Ok, Option, is_some, Result, IfOk, sym, refl, ap, ◌∙◌, subst, arith}
 use mathlib.Core.Path.{transport}
-use Rattle.std.proofs.lemmas.List.{append_assoc, append-nil, drop-drop, drop-take, take-append-drop}
+use Rattle.std.proofs.lemmas.List.{length-take, length-drop, append_assoc, append-nil, drop-drop, drop-take, take-append-drop}
 use Rattle.std.proofs.lemmas.Result.{IfOk-at_ok}
 use Rattle.console.specs.declared.buffered.BufferedWire.{BufferedWire}
 use Rattle.console.specs.declared.reader.LineReader.{LineReader}
 use Rattle.market.specs.declared.product.Product.{Product}
 use Rattle.console.specs.Sessions.{Ready}
 use Rattle.console.specs.Wires.{Event, Took, Gave, taken, given}
-use Rattle.console.specs.Cuts.{start, used_by, Fed}
+use Rattle.console.specs.Cuts.{start, used_by, Fed, Cuts}
 use Rattle.console.specs.Lines.{closed_lines, open_line, has_newline, before_newline}
-use Rattle.console.specs.Reading.{unread, CutOn, Stands, Keeps, OneMore, Still}
+use Rattle.console.specs.Reading.{unread, Stands, Keeps, OneMore, Still}
 use Rattle.console.proofs.Feeds.{held, grows, stays, cut_feeds}
 
 -- nothing is unread where the block is used up
 pub none_unread : (r : LineReader) → r.at ≡ r.end → unread r ≡ []
 none_unread r e = ap (λ n. take n (drop r.at (vec_items r.block))) (let z : r.end - r.at ≡ 0 = omega arith in z)
+
+-- the end of a block is as far on as its unread bytes are many
+pub all_used : (r : LineReader) → r.end ≡ r.at + length (unread r)
+all_used r = omega (arith, r.ordered, r.inside, length-take (r.end - r.at) (drop r.at (vec_items r.block)), length-drop r.at (vec_items r.block))
 
 -- the front of a block that was just read
 pub front_unread : (n : ℕ) (block : List ℕ) → take (n - 0) (drop 0 block) ≡ take n block
@@ -50,14 +54,21 @@ read_keeps log r r' w w' fresh none some same empty logged rules used text reply
 
 -- ---- a cut
 
-module _ (r r' : LineReader) (complete : Bool) (on : CutOn r complete r') where
+-- the unread bytes are cut once; what the cut used is no longer unread
+pub record CutOn (before : LineReader) (cut : Option ℕ) (after : LineReader) : Type 0 where
+  pub cuts : Cuts before.cutter (unread before) cut after.cutter
+  pub moves : after.at ≡ before.at + used_by cut (unread before)
+  pub stays : after.end ≡ before.end
+  pub block : after.block ≡ before.block
+
+module _ (r r' : LineReader) (cut : Option ℕ) (on : CutOn r cut r') where
   -- what the cut used, and what is then unread, were unread
-  unread-parts : unread r ≡ take (used_by on.cut (unread r)) (unread r) ++ unread r'
+  unread-parts : unread r ≡ take (used_by cut (unread r)) (unread r) ++ unread r'
   unread-parts =
-      let k = used_by on.cut (unread r) in
+      let k = used_by cut (unread r) in
       let xs = vec_items r.block in
       let m = r'.end - r'.at in
-      let whole : r.end - r.at ≡ k + m = omega (arith, on.moves, on.stays, r'.inside.0) in
+      let whole : r.end - r.at ≡ k + m = omega (arith, on.moves, on.stays, r'.ordered) in
       let rest : unread r' ≡ drop k (unread r) =
       (λ i. take m (drop (on.moves i) (vec_items (on.block i))))
       ∙ ap (take m) (sym (drop-drop k r.at xs))
@@ -71,34 +82,34 @@ module _ (r r' : LineReader) (complete : Bool) (on : CutOn r complete r') where
     fed = record { lines = refl; rest = s.holds }
 
     abbrev after : List ℕ
-    after = used ++ take (used_by on.cut (unread r)) (unread r)
+    after = used ++ take (used_by cut (unread r)) (unread r)
 
     cut_stands : Stands rules log r' w after text
     cut_stands =
         record {
           events = s.events;
           logged = s.logged;
-          cut = s.cut ∙ ap (λ l. used ++ l) unread-parts ∙ sym (append_assoc used (take (used_by on.cut (unread r)) (unread r)) (unread r'));
-          holds = (cut_feeds r.cutter r'.cutter (unread r) on.cut on.cuts used (map start (closed_lines used)) fed).rest;
+          cut = s.cut ∙ ap (λ l. used ++ l) unread-parts ∙ sym (append_assoc used (take (used_by cut (unread r)) (unread r)) (unread r'));
+          holds = (cut_feeds r.cutter r'.cutter (unread r) cut on.cuts used (map start (closed_lines used)) fed).rest;
           buffered = s.buffered;
           prompt = s.prompt;
         }
 
-    pub cut_found : complete ≡ true → OneMore rules log r' w used text
+    pub cut_found : is_some cut ≡ true → OneMore rules log r' w used text
     cut_found e =
-        let found : has_newline (unread r) ≡ true = sym on.cuts.closed ∙ sym on.says ∙ e in
+        let found : has_newline (unread r) ≡ true = sym on.cuts.closed ∙ e in
         record {
           used' = after;
           line = open_line used ++ before_newline (unread r);
           stands = cut_stands;
-          lines = grows r.cutter r'.cutter (unread r) on.cut on.cuts used (map start (closed_lines used)) fed found;
-          head = held r.cutter r'.cutter (unread r) on.cut on.cuts used (map start (closed_lines used)) fed;
+          lines = grows r.cutter r'.cutter (unread r) cut on.cuts used (map start (closed_lines used)) fed found;
+          head = held r.cutter r'.cutter (unread r) cut on.cuts used (map start (closed_lines used)) fed;
         }
 
-    pub cut_none : complete ≡ false → Still rules log r' w used text
+    pub cut_none : is_some cut ≡ false → Still rules log r' w used text
     cut_none e =
-        let none : has_newline (unread r) ≡ false = sym on.cuts.closed ∙ sym on.says ∙ e in
-        record { used' = after; stands = cut_stands; lines = stays r.cutter r'.cutter (unread r) on.cut on.cuts used (map start (closed_lines used)) fed none }
+        let none : has_newline (unread r) ≡ false = sym on.cuts.closed ∙ e in
+        record { used' = after; stands = cut_stands; lines = stays r.cutter r'.cutter (unread r) cut on.cuts used (map start (closed_lines used)) fed none }
 
 -- ---- one step after the other
 

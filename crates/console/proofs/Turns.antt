@@ -1,5 +1,5 @@
 -- How the answers to one line after the other make up a session.
-use Rattle.std.proofs.Common.{◌≡◌, ℕ, List, [], ◌∷◌, ◌++◌, Some, None, Result, Vec, Global, vec_items, sym, ap, ◌∙◌, subst}
+use Rattle.std.proofs.Common.{◌≡◌, ℕ, List, [], ◌∷◌, ◌++◌, Some, None, Ok, Option, IfOk, Result, Vec, Global, vec_items, sym, ap, ◌∙◌, subst}
 use mathlib.Core.Path.{transport}
 use Rattle.std.proofs.lemmas.List.{append_assoc, append-nil}
 use Rattle.market.specs.declared.product.Product.{Product}
@@ -15,11 +15,12 @@ use denote.Ref.{Bor}
 use Rattle.console.specs.Answering.{Answered}
 use Rattle.console.specs.Cuts.{kept}
 use Rattle.console.specs.Lines.{closed_lines}
-use Rattle.console.specs.Reading.{Stands, Next}
+use Rattle.console.specs.Reading.{Stands, Next, Finds}
 use Rattle.console.specs.Serving.{SessionStands, RepliesOn, AnsweredOn, AllAnswered}
 use Rattle.console.specs.Sessions.{rows_offered, Answers, none, next, Ready}
 use Rattle.console.specs.Text.{answer_text, report_text}
 use Rattle.console.specs.Wires.{Event, given}
+use Rattle.console.proofs.Standing.{found_as}
 
 -- text is added to what waits
 pub appended : {W : Type 0} {rules : Product → List ℕ → ℕ → List ℕ} {log : W → List Event → Type 0} {r : LineReader} {w : BufferedWire W} {used text : List ℕ} (t : Vec ℕ Global) (more : List ℕ) → vec_items t ≡ vec_items w.text ++ more → Stands rules log r w used text → Stands rules log r (record w { text = t }) used (text ++ more)
@@ -63,6 +64,10 @@ module _ (shares : List ℕ → ℕ → List ℕ) where
 
     pub keep_answers : {s s' : Session W} (w : View) → ((used text : List ℕ) → SessionStands rules log s used text → SessionStands rules log s' used text) → AnsweredOn rules shares v log s used text w → AnsweredOn rules shares v log s' used text w
     keep_answers w k a = record { used' = a.used'; lines = a.lines; more = a.more; stands = k a.used' (text ++ a.more) a.stands; closes = a.closes; answers = a.answers }
+
+    -- what was found next
+    pub found_next : {s : Session W} (over : W → Type 0) {E : Type 0} {o : Result (Option (Bor (List ℕ))) E} {l line : Option (Bor (List ℕ))} (r : LineReader) (w : BufferedWire W) (u : View) (a : AnsweredOn rules shares v log s used text u) → RepliesOn rules shares v used text → o ≡ Ok l → l ≡ line → IfOk o (λ x. Finds log over s.reader s.wire x r w) → Next line rules log over r w a.used' (text ++ a.more)
+    found_next {s} over r w u a on was is found = found_as (λ x. Finds log over s.reader s.wire x r w) was is found rules a.used' (text ++ a.more) (replied u a on) a.stands
 
     pub end_answers : {over : W → Type 0} {s s' : Session W} (w : View) (a : AnsweredOn rules shares v log s used text w) → Next None rules log over s'.reader s'.wire a.used' (text ++ a.more) → AllAnswered rules shares v log over s' used text
     end_answers w a n =

@@ -20,7 +20,7 @@ pub record Answered (shares : List ℕ → ℕ → List ℕ) (before : View) (he
   pub follows : (line : List ℕ) → head ≡ start line → Follows (Takes shares before (line_call line)) before room answer rows after
   pub written : text' ≡ text ++ (answer_text answer ++ report_text rows)
 
--- what came of building, where memory was not wanting
+-- what came of building, where there was memory
 abbrev pub as_built : {R : Type 0} → Result (Opening R) Refusal → Result (Opening R) BuildError
 as_built (Ok o) = Ok o
 as_built (Err e) = Err (Refused e)

@@ -1,9 +1,9 @@
 -- What a reader has read and not cut yet, and how far a session stands.
-use Rattle.std.specs.Prelude.{◌≡◌, ℕ, ◌+◌, ◌-◌, Bool, List, [], ◌∷◌, ◌++◌, take, drop, Some, None, Option, is_some, vec_items}
+use Rattle.std.specs.Prelude.{◌≡◌, ℕ, ◌-◌, List, [], ◌∷◌, ◌++◌, take, drop, Some, None, Option, vec_items}
 use denote.Ref.{Bor}
 use Rattle.console.specs.declared.buffered.BufferedWire.{BufferedWire}
 use Rattle.console.specs.declared.reader.LineReader.{LineReader}
-use Rattle.console.specs.Cuts.{start, kept, pending, used_by, Cuts}
+use Rattle.console.specs.Cuts.{start, kept, pending}
 use Rattle.market.specs.declared.product.Product.{Product}
 use Rattle.console.specs.Lines.{closed_lines, open_line}
 use Rattle.console.specs.Sessions.{Ready, Prompt, BrokenOff}
@@ -12,15 +12,6 @@ use Rattle.console.specs.Wires.{Event, taken, given}
 -- the bytes of the last block that are still to be cut
 abbrev pub unread : LineReader → List ℕ
 unread r = take (r.end - r.at) (drop r.at (vec_items r.block))
-
--- the unread bytes are cut once; what the cut used is no longer unread, and it says whether a line is complete
-pub record CutOn (before : LineReader) (complete : Bool) (after : LineReader) : Type 0 where
-  pub cut : Option ℕ
-  pub cuts : Cuts before.cutter (unread before) cut after.cutter
-  pub says : complete ≡ is_some cut
-  pub moves : after.at ≡ before.at + used_by cut (unread before)
-  pub stays : after.end ≡ before.end
-  pub block : after.block ≡ before.block
 
 -- of what the wire has read, `used` is cut and the rest is unread; what it has written and what waits to be written are the text; each read so far was prompt
 pub record Stands {W : Type 0} (rules : Product → List ℕ → ℕ → List ℕ) (log : W → List Event → Type 0) (r : LineReader) (w : BufferedWire W) (used text : List ℕ) : Type 0 where

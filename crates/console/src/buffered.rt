@@ -4,7 +4,7 @@ ghost use Rattle.console.specs.Wires.{Event, Took, Gave, PartGiven};
 
 use crate::wire::Wire;
 
-// A wire, and the text that waits to be written to it.
+// A wire, and the text that waits to be written to it. Each call says with `same` that it keeps the borrow: a struct that holds a `&mut` could be given another.
 #[derive(Drop)]
 pub(crate) struct BufferedWire<'a, W> {
     pub(crate) wire: &'a mut W,

@@ -6,8 +6,10 @@ mod calls;
 // Holds of the line at hand no more than its first 1,201 bytes, and takes no memory after it is made.
 #[derive(Drop)]
 pub struct LineCutter {
+    // A Vec, as `new` is given a heap, and in place these bytes would be moved with each reader.
     line: Vec<u8>,
     // A flag, since the one buffer is held and lent alike whether its line is complete or still open.
     complete: bool,
-    ghost room: { (vec_len line ≤ 1201) × (1201 ≤ vec_capacity line) },
+    ghost short: { vec_len line ≤ 1201 },
+    ghost room: { 1201 ≤ vec_capacity line },
 }

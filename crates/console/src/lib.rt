@@ -1,4 +1,4 @@
-// What stands around a venue: lines cut from its input, the text of its answers, and a whole session over a wire.
+// The parts around a venue: lines cut from its input, the text of its answers, and a whole session over a wire.
 #![tactic(auto)]
 
 mod answering;

@@ -6,12 +6,14 @@ use crate::cutter::LineCutter;
 pub(crate) mod calls;
 
 // The bytes of the last block from `at` up to `end` are still to be cut; they stand beside the block, which keeps its length for the next read.
+// No BufReader: it reads from a std::io::Read, and a Wire is a trait of this crate, whose log the law of a session reads.
 #[derive(Drop)]
 pub(crate) struct LineReader {
     cutter: LineCutter,
     block: Vec<u8>,
     at: usize,
     end: usize,
-    ghost inside: { (at ≤ end) × (end ≤ vec_len block) },
+    ghost ordered: { at ≤ end },
+    ghost inside: { end ≤ vec_len block },
     ghost room: { 0 < vec_len block },
 }

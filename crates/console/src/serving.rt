@@ -1,4 +1,4 @@
-// A session from one end of a wire to the other.
+// A whole session over a wire.
 ghost use Rattle.std.specs.Prelude.{[], OnErr, OnOk};
 ghost use Rattle.console.specs.Sessions.{rule_for, Served, BrokenOff};
 
@@ -23,7 +23,7 @@ pub fn serve_wire<W: Wire>(heap: Global, wire: &mut W) -> anyhow::Result<()>
     let wire = BufferedWire { wire, text };
     let mut session = Session { heap, reader, wire };
     let served = session.serve();
-    // No effect at run time: the proof reads here what the wire holds.
+    // No effect at run time: the proof reads here what the wire holds. Tried: with no such line nothing is known of the wire.
     let _ = &*session.into_wire();
     served
 }

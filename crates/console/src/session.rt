@@ -1,7 +1,7 @@
 // A session: its input, cut into lines, its answers, and the wire for both.
-ghost use Rattle.std.specs.Prelude.{◌≡◌, length, OnErr, OnOk};
+ghost use Rattle.std.specs.Prelude.{◌≡◌, OnErr, OnOk};
 ghost use Rattle.gate.specs.Views.{view};
-ghost use Rattle.console.specs.Sessions.{rule_for, rows_offered, Served, BrokenOff};
+ghost use Rattle.console.specs.Sessions.{rule_for, Served, BrokenOff};
 ghost use Rattle.console.specs.Serving.{FromStart, FromFirst, FromAnswers, AllAnswered};
 
 use crate::answering::{answer_line, open_venue};
@@ -21,7 +21,7 @@ use std::alloc::Global;
 // How many rows a report has.
 const ROWS: usize = 1024;
 
-// From how many bytes on the text that waits is written out.
+// The text that waits is written out once it has this many bytes.
 pub(crate) const FULL: usize = 65_536;
 
 #[derive(Drop)]
@@ -32,7 +32,7 @@ pub(crate) struct Session<'a, W> {
 }
 
 impl<'a, W> Session<'a, W> {
-    // Gives the wire back.
+    // Gives the wire back, for a proof alone. Tried: the borrow checker does not cover yet a caller that reads the field.
     pub(crate) fn into_wire(self) -> &'a mut W
         ensures same { result.ghost_name ≡ self.entry.wire.wire.ghost_name }
         ensures value { result.now ≡ self.entry.wire.wire.now }
@@ -65,6 +65,7 @@ impl<W: Wire> Session<'_, W> {
         ensures served { OnOk result (FromFirst W.Wire.log (R.AllocationRule.shares rule) self.old (λ rules. Served rules (W.Wire.log self.new.wire.wire.now) (W.Wire.over self.new.wire.wire.now))) }
         ensures failed { OnErr result (FromFirst W.Wire.log (R.AllocationRule.shares rule) self.old (λ rules. BrokenOff rules (W.Wire.log self.new.wire.wire.now))) }
     {
+        // The line is asked for again, since the session, lent whole, cannot be lent beside a line of its reader.
         match open_venue(self.heap, rule, self.reader.line(), &mut self.wire.text)? {
             None => self.wire.flush(),
             Some(gateway) => self.answer_all(gateway),
@@ -81,24 +82,14 @@ impl<W: Wire> Session<'_, W> {
         ensures failed { OnErr result (FromAnswers W.Wire.log (R.AllocationRule.shares gateway.venue.rule) (view gateway.venue) self.old (λ rules used text. BrokenOff rules (W.Wire.log self.new.wire.wire.now))) }
     {
         let mut report = vec![in self.heap; Row::blank(); ROWS]?;
-        self.answer_lines(&mut gateway, report.as_mut_slice())
-    }
-
-    // Answers every line up to the end of the input, each with this report.
-    fn answer_lines<R: AllocationRule>(
-        &mut self,
-        gateway: &mut Gateway<R>,
-        report: &mut [Row],
-    ) -> anyhow::Result<()>
-        requires { length report.old ≡ rows_offered }
-        ensures same { self.new.wire.wire.ghost_name ≡ self.old.wire.wire.ghost_name }
-        ensures answered { OnOk result (FromAnswers W.Wire.log (R.AllocationRule.shares gateway.old.venue.rule) (view gateway.old.venue) self.old (λ rules used text. AllAnswered rules (R.AllocationRule.shares gateway.old.venue.rule) (view gateway.old.venue) W.Wire.log W.Wire.over self.new used text)) }
-        ensures failed { OnErr result (FromAnswers W.Wire.log (R.AllocationRule.shares gateway.old.venue.rule) (view gateway.old.venue) self.old (λ rules used text. BrokenOff rules (W.Wire.log self.new.wire.wire.now))) }
-    {
+        // Input has no known end, and each loop is proved to end: a count that no input reaches. This loop answers lines; that of the reader reads blocks until one is cut.
         for _ in 0..u64::MAX {
             match self.reader.next_line(&mut self.wire)? {
                 None => return Ok(()),
-                Some(line) => answer_line(gateway, line, report, &mut self.wire.text)?,
+                Some(line) => {
+                    let report = report.as_mut_slice();
+                    answer_line(&mut gateway, line, report, &mut self.wire.text)?;
+                }
             }
             if self.wire.text.len() >= FULL {
                 self.wire.flush()?;

@@ -1,4 +1,4 @@
-// The text of answers and reports, appended to a buffer. A buffer fails only for want of memory, and then a part of a text may stand.
+// The text of answers and reports, appended to a buffer. A write fails only where there is no memory, and then a part of a text may stand.
 ghost use Rattle.std.specs.Prelude.{◌≡◌, ◌++◌, OnOk, Some};
 ghost use Rattle.console.specs.Text.{answer_text, row_text, report_text};
 
@@ -8,7 +8,7 @@ use std::alloc::AllocError;
 use std::fmt;
 use std::io::Write;
 
-// The line of an answer.
+// The line of an answer; a type of this crate, since Display can be given to no other, and Refusal is the market's.
 #[derive(Clone, Copy)]
 struct AnswerLine(Result<(u32, u32), Refusal>);
 
@@ -30,7 +30,7 @@ impl fmt::Display for AnswerLine {
     }
 }
 
-// The line of a row.
+// The line of a row; a type of this crate, since Row is the market's.
 #[derive(Clone, Copy)]
 struct RowLine(Row);
 

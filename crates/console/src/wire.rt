@@ -1,4 +1,4 @@
-// The two ends of a session: where its bytes come from, and where its text goes.
+// What a session reads its bytes from and writes its text to.
 ghost use Rattle.std.specs.Prelude.{◌≡◌, ◌<◌, ◌≤◌, List, ◌∷◌, length, take, IfOk, OnErr, OnOk};
 ghost use Rattle.console.specs.Wires.{Event, Took, Gave, PartGiven};
 

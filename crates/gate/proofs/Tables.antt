@@ -1,7 +1,7 @@
 -- Conditions tried one after another.
-use Rattle.std.proofs.Common.{◌≡◌, ℕ, ◌+◌, Bool, true, false, cond, not, List, [], ◌∷◌, Some, None, Option, sym, refl, ap, ◌∙◌, subst, add-zero, add_assoc}
+use Rattle.std.proofs.Common.{◌≡◌, ℕ, ◌+◌, Bool, true, false, cond, not, List, [], ◌∷◌, Some, None, Ok, Err, Option, Result, sym, refl, ap, ◌∙◌, subst, add-zero, add_assoc}
 use Rattle.std.specs.List.{position, position_from}
-use Rattle.std.specs.Option.{option_map}
+use Rattle.std.specs.Option.{option_map, MatchOption}
 use Rattle.std.proofs.lemmas.Iterator.Adapters.{position_from-zero}
 use Rattle.market.specs.declared.product.Band.{Band}
 use Rattle.market.specs.declared.refusal.Refusal.{Refusal}
@@ -9,6 +9,7 @@ use Rattle.market.specs.declared.refusal.Refusal.TheVariants as refusal
 use Rattle.market.specs.Bands.{first_broken, build_fault, BandsJudged}
 use Rattle.market.specs.Venues.{topmost}
 use Rattle.market.proofs.BandFaults.{bands_judged}
+use Rattle.gate.specs.Conditions.{Judges}
 
 -- the refusal of the band at an index
 abbrev pub band_at : ℕ → ℕ → Refusal
@@ -27,6 +28,11 @@ module _ (test : Band → Bool) (place : ℕ) where
   -- the first broken band is at the first index that fails the test
   pub broken_at : (bands : List Band) (index : Option ℕ) → index ≡ position (λ b. not (test b)) bands → first_broken test bands place ≡ option_map (band_at place) index
   broken_at bands index is = ap (first_broken test bands) (sym (add-zero place)) ∙ broken_from 0 bands ∙ ap (option_map (band_at place)) (sym (is ∙ position_from-zero (λ b. not (test b)) bands))
+
+-- the answer that is Ok without an index, and else refuses the band there
+pub told : {Says : ℕ → Type 0} (place : ℕ) (index : Option ℕ) (answer : Result (Unit {0}) Refusal) → MatchOption index (answer ≡ Ok tt) Says → ((i : ℕ) → Says i → answer ≡ Err (band_at place i)) → Judges (option_map (band_at place) index) answer
+told place None answer is says = subst (Judges None) (sym is) refl
+told place (Some i) answer is says = subst (Judges (Some (band_at place i))) (sym (says i is)) refl
 
 -- the last condition of a table
 pub last_of : (fault : Option Refusal) → topmost (fault ∷ []) ≡ fault

@@ -1,4 +1,4 @@
-// Why no venue is built: the line is refused, or memory is wanting once the line is judged sound.
+// Why no venue is built: the line is refused, or there is no memory once the line is judged sound.
 ghost use Rattle.std.specs.Prelude.{◌≡◌};
 ghost use Rattle.gate.specs.declared.build_error.BuildError.TheVariants.{Refused, OutOfMemory};
 

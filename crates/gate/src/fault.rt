@@ -3,18 +3,34 @@ ghost use Rattle.std.specs.Prelude.{◌≡◌, Bool, not, ◌+◌, ◌^◌, ◌<
 ghost use Rattle.std.specs.Fn.{FnReturnsAt};
 ghost use Rattle.market.specs.declared.product.Band.{Band as ABand};
 ghost use Rattle.market.specs.Bands.{first_broken, build_fault};
-ghost use Rattle.market.specs.Venues.{unless, within_band};
+ghost use Rattle.market.specs.declared.refusal.Refusal.TheVariants.{Participant};
+ghost use Rattle.market.specs.Venues.{between, unless, within_band};
 ghost use Rattle.gate.specs.Conditions.{Judges};
 
 use market::price::Price;
 use market::product::Band;
 use market::refusal::Refusal;
 
+const LAST_PARTICIPANT: u32 = 999;
+
+// The highest price that a band may reach.
+const HIGHEST_PRICE: u32 = 999_999;
+
 // Refused unless the test holds.
 pub(crate) fn unless(test: bool, refusal: Refusal) -> Result<(), Refusal>
     ensures { Judges (unless test refusal) result }
 {
     if test { Ok(()) } else { Err(refusal) }
+}
+
+// Participants are numbered 1 to 999.
+pub(crate) fn check_participant(participant: u32) -> Result<(), Refusal>
+    ensures { Judges (unless (between 1 999 participant) Participant) result }
+{
+    unless(
+        (1..=LAST_PARTICIPANT).contains(&participant),
+        Refusal::Participant,
+    )
 }
 
 // The price is neither below the band nor above it.
@@ -30,10 +46,10 @@ fn first_broken<F: Fn(&Band) -> bool>(bands: &[Band], place: u32, broken: F) -> 
     requires callable { F.IsAlwaysCallable broken }
     ensures { (p : ABand → Bool) → ((b : ABand) (t : Bool) → FnReturnsAt F.Fn broken b t → t ≡ not (p b)) → Judges (first_broken p bands.now place) result }
 {
-    match bands.iter().position(broken) {
-        None => Ok(()),
-        Some(i) => Err(Refusal::Band(place + i as u32)),
-    }
+    bands
+        .iter()
+        .position(broken)
+        .map_or(Ok(()), |i| Err(Refusal::Band(place + i as u32)))
 }
 
 // Whether a build line's bands are sound, and if not, why.
@@ -43,6 +59,6 @@ pub(crate) fn judge(bands: &[Band]) -> Result<(), Refusal>
 {
     let highs = 2 + bands.len() as u32;
     first_broken(bands, 2, |band| band.low < 1)?;
-    first_broken(bands, highs, |band| band.high > 999_999)?;
+    first_broken(bands, highs, |band| band.high > HIGHEST_PRICE)?;
     first_broken(bands, 2, |band| band.low > band.high)
 }

@@ -4,8 +4,9 @@ use book::book::Book;
 use market::product::Product;
 use rules::rule::AllocationRule;
 
-pub mod calls;
+mod calls;
 
+// That a call keeps the rule is a fact of a call's two ends, which no field and no invariant can hold: each call says it.
 #[derive(Drop)]
 pub struct Venue<R: AllocationRule> {
     book: Book,

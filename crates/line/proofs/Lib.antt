@@ -1,5 +1,6 @@
 pub mod Decimals
 pub mod Splits
+pub mod Takings
 pub mod Fillings
 pub mod Partings
 pub mod Judging

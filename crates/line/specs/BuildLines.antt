@@ -22,12 +22,12 @@ abbrev pub product_of : List ℕ → Product
 product_of f = product_by (code f)
 
 -- the band of a low and a field with its high
-abbrev pub band_of : ℕ → List ℕ → Band
-band_of low f = record { low = low; high = decimal f }
+abbrev pub band_from : ℕ → List ℕ → Band
+band_from low f = record { low = low; high = decimal f }
 
 -- n bands from n lows and then n highs
 abbrev pub bands_of : ℕ → List (List ℕ) → List Band
-bands_of n fs = from_runs band_of n fs
+bands_of n fs = from_runs band_from n fs
 
 -- product, the number n of instruments, n lows, n highs
 abbrev pub build_form : List (List ℕ) → Form BuildLine

@@ -56,12 +56,12 @@ abbrev pub price_of : List ℕ → Price
 price_of f = record { 0 = signed f }
 
 -- the leg of an instrument and a field with its ratio
-abbrev pub leg_of : ℕ → List ℕ → Leg
-leg_of instrument f = record { instrument = instrument; ratio = signed f }
+abbrev pub leg_from : ℕ → List ℕ → Leg
+leg_from instrument f = record { instrument = instrument; ratio = signed f }
 
 -- k legs from k instruments and then k ratios
 abbrev pub legs_of : ℕ → List (List ℕ) → List Leg
-legs_of k fs = from_runs leg_of k fs
+legs_of k fs = from_runs leg_from k fs
 
 -- E: participant, book, side, quantity, price, duration
 abbrev pub enter_form : List (List ℕ) → Form Call

@@ -19,6 +19,11 @@ abbrev pub Valued : (List ℕ → Bool) → List ℕ → Option ℕ → Type 0
 Valued p bs None = p bs ≡ false
 Valued p bs (Some n) = (p bs ≡ true) × (n ≡ decimal bs) × (n < 1000000000)
 
+-- what bytes that pass a test are worth, or nothing
+abbrev pub Gives : {X : Type 0} → (List ℕ → Bool) → (List ℕ → X) → List ℕ → Option X → Type 0
+Gives p value bs None = p bs ≡ false
+Gives p value bs (Some x) = (p bs ≡ true) × (x ≡ value bs)
+
 -- the bytes of a field, as they are read
 abbrev pub Reads : List ℕ → Field → Type 0
 Reads bs (Letter c) = (lone_capital bs ≡ true) × (c ≡ code bs)

@@ -27,7 +27,7 @@ abbrev pub build_refusal : Result BuildLine Refusal → Option Refusal
 build_refusal (Ok b) = build_fault (bands_given b)
 build_refusal (Err e) = Some e
 
--- a venue is built as the fields of a build line say, under the rule that is given, or a band is broken, or memory is wanting though no band is
+-- a venue is built as the fields of a build line say, under the rule that is given, or a band is broken, or there is no memory though no band is broken
 abbrev pub OpensAs : {R : Type 0} → R → BuildLine → Result (Opening R) BuildError → Type 0
 OpensAs rule b (Ok o) = (build_fault (bands_given b) ≡ None) × (view o.gateway.venue ≡ fresh b.product (bands_given b)) × (o.answer ≡ acceptance_numbers (Built (length (bands_given b)))) × (o.gateway.venue.rule ≡ rule)
 OpensAs rule b (Err (Refused e)) = build_fault (bands_given b) ≡ Some e
@@ -42,7 +42,7 @@ pub record Opened (shares : List ℕ → ℕ → List ℕ) (line : List ℕ) (an
   pub reached : Reached line_call shares [] v
   pub sound : Sound line_call [] v
 
--- a build line opens a venue under the rule that it is given, or is refused, or memory is wanting though it is not
+-- a build line opens a venue under the rule that it is given, or is refused, or there is no memory though it is not refused
 abbrev pub Opens : {R : Type 0} → (R → List ℕ → ℕ → List ℕ) → R → List ℕ → Result (Opening R) BuildError → Type 0
 Opens shares rule line (Ok o) = (build_refusal (build_line line) ≡ None) × Opened (shares rule) line o.answer (view o.gateway.venue) × (o.gateway.venue.rule ≡ rule)
 Opens shares rule line (Err (Refused e)) = build_refusal (build_line line) ≡ Some e

@@ -1,5 +1,6 @@
 -- The kinds that fields should have, and the first field at fault.
 use Rattle.std.specs.Prelude.{◌≡◌, ℕ, zero, suc, ◌+◌, Bool, true, false, cond, ◌&&◌, ◌||◌, List, [], ◌∷◌, Some, None, Ok, Err, Option, Result, ◌==◌, nat_le}
+use Rattle.std.specs.List.{list_any}
 use Rattle.market.specs.declared.refusal.Refusal.{Refusal}
 use Rattle.market.specs.declared.refusal.Refusal.TheVariants.{Field}
 use Rattle.line.specs.Bytes.{first, others}
@@ -18,8 +19,7 @@ pub data Kind : Type 0 where
 
 -- the code is one of a list
 abbrev pub among : ℕ → List ℕ → Bool
-among b [] = false
-among b (c ∷ cs) = b == c || among b cs
+among b cs = list_any (λ c. b == c) cs
 
 -- what a letter names, where letters name values
 abbrev pub Means : {X : Type 0} → List ℕ → (ℕ → X) → ℕ → Option X → Type 0

@@ -1,8 +1,8 @@
-// The door to a venue: lines in, answers and report rows out, and no other way in.
+// A venue that is called by lines alone: a line goes in, an answer and report rows come out.
 use gate::venue::Venue;
 use rules::rule::AllocationRule;
 
-pub mod calls;
+mod calls;
 
 #[derive(Drop)]
 pub struct Gateway<R: AllocationRule> {

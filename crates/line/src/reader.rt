@@ -11,7 +11,6 @@ use crate::bands::{BuildLine, read_build_fields};
 use crate::cursor::Cursor;
 use crate::legs::read_define;
 use market::call::Call;
-use market::phase::Event;
 use market::product::Product;
 use market::refusal::Refusal;
 
@@ -86,7 +85,7 @@ fn read_quote(fields: &mut Cursor<'_>) -> Result<Call, Refusal>
 fn read_switch(fields: &mut Cursor<'_>) -> Result<Call, Refusal>
     ensures { result ≡ read_rest switch_form fields.old }
 {
-    let event: Event = fields.named()?;
+    let event = fields.named()?;
     fields.end()?;
     Ok(Call::Switch { event })
 }

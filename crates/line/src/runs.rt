@@ -3,8 +3,8 @@ ghost use Rattle.std.specs.Prelude.{◌≡◌, ℕ, ◌≤◌, List, IfOk};
 ghost use Rattle.arrayvec.specs.ArrayVec.{array_vec_len};
 ghost use Rattle.line.specs.Numbers.{decimal};
 ghost use Rattle.line.specs.Kinds.{Kind, fits, plain_number, signed_number};
-ghost use Rattle.line.specs.BuildLines.{band_of};
-ghost use Rattle.line.specs.CallLines.{leg_of};
+ghost use Rattle.line.specs.BuildLines.{band_from};
+ghost use Rattle.line.specs.CallLines.{leg_from};
 ghost use Rattle.line.specs.Runs.{places};
 ghost use Rattle.line.specs.Cursors.{Took};
 ghost use Rattle.line.specs.Fills.{Filled, FilledTwice};
@@ -30,7 +30,7 @@ pub(crate) trait Element: Default + Drop {
 impl Element for Band {
     ghost kind = { plain_number };
 
-    ghost made = { band_of };
+    ghost made = { band_from };
 
     fn read(low: u32, fields: &mut Cursor<'_>) -> Result<Band, Refusal> {
         let high = fields.number()?;
@@ -41,7 +41,7 @@ impl Element for Band {
 impl Element for Leg {
     ghost kind = { signed_number };
 
-    ghost made = { leg_of };
+    ghost made = { leg_from };
 
     fn read(instrument: u32, fields: &mut Cursor<'_>) -> Result<Leg, Refusal> {
         let ratio = fields.signed()?;
@@ -50,7 +50,7 @@ impl Element for Leg {
 }
 
 impl<'a> Cursor<'a> {
-    // A run of numbers; no line has more than 64 in a run.
+    // A run of numbers, 64 at most. Tried with a size of the caller's: that so many numbers fit in memory stays open, since the caller's array holds elements.
     fn numbers(&mut self, count: u32) -> Result<ArrayVec<u32, 64>, Refusal>
         requires { count ≤ 64 }
         ensures filled { Filled plain_number (λ _ f. decimal f) self.old (places count) result self.new }
@@ -63,7 +63,7 @@ impl<'a> Cursor<'a> {
         Ok(numbers)
     }
 
-    // So many elements, of two runs.
+    // So many elements, of two runs. A loop of its own, as in `numbers`: one for both would lend the cursor to a closure, and be no shorter.
     pub(crate) fn elements<T: Element, const N: usize>(
         &mut self,
         count: u32,

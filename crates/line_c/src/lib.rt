@@ -4,7 +4,7 @@
 ghost use Rattle.std.specs.Prelude.{◌≡◌, is_ok, ◌==◌};
 ghost use Rattle.line.specs.Verdicts.{line_call, check_code};
 
-// 0 for a call, and else the refusal's number times 10,000 and its place.
+// 0 for a call, and else the refusal's number times 10,000 and its place: one number, since programs in C call it.
 #[unsafe(no_mangle)]
 pub extern "C" fn line_check(line: &[u8]) -> u32
     ensures value { result ≡ check_code (line_call line.now) }

@@ -4,13 +4,13 @@ ghost use Rattle.market.specs.Acceptances.{acceptance_numbers};
 
 #[derive(Clone, Copy)]
 pub enum Acceptance {
-    // so many instruments
+    // how many instruments
     Built { instruments: u32 },
     // the order's number, and what it traded
     Entered { number: u32, traded: u32 },
     // the order's number, and what it had open
     Cancelled { number: u32, quantity: u32 },
-    // so many orders taken out
+    // how many orders were taken out
     Switched { orders: u32 },
 }
 

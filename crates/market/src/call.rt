@@ -18,8 +18,8 @@ pub struct Leg {
     pub ratio: i32,
 }
 
-// One call, as read from a line: all numbers as they stand there.
-#[derive(Drop)]
+// One call, as read from a line: all numbers as they stand there, a book by its number alone; the gate makes an Arrival or an OrderId of them, and then judges it.
+#[derive(Clone, Drop)]
 pub enum Call {
     Enter {
         participant: u32,

@@ -1,4 +1,4 @@
-// Two counts that nothing adds or compares with each other.
+// Two counts that nothing adds or compares with each other: two types, as docs/DECISIONS.md asks for, and not one with a parameter.
 
 // Contracts of an instrument.
 #[derive(Clone, Copy)]

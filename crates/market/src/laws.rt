@@ -1,4 +1,4 @@
-// What is proved about the rules: the law over sessions, and that the rules allow a message at most one ending.
+// What is proved about the rules: the law over sessions, and that the rules allow a message at most one ending. No code: a theorem is proved where a contract names it.
 ghost use Rattle.market.specs.Laws.{EverySession};
 ghost use Rattle.market.specs.Unique.{RulesDetermine};
 

@@ -16,7 +16,7 @@ pub enum Event {
     Close,
 }
 
-// What a change of phase takes out of the book.
+// What a change of phase takes out of the book; Nothing is a case, and no None, as each answers how many orders it took.
 #[derive(Clone, Copy)]
 pub enum Withdrawal {
     Nothing,

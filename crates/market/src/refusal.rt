@@ -13,6 +13,7 @@ pub enum Layer {
     Book,
 }
 
+// The number of each layer in an answer.
 impl From<Layer> for u32 {
     ghost from_gives = { λ layer n. n ≡ layer_number layer };
 
@@ -25,7 +26,7 @@ impl From<Layer> for u32 {
     }
 }
 
-// A number with a case is the place of the byte or field at fault.
+// A number with a case is the place of the byte or field at fault; the other cases have one place each.
 #[derive(Clone, Copy, PartialEq, Eq, Debug)]
 pub enum Refusal {
     NotOffered,
@@ -43,7 +44,7 @@ pub enum Refusal {
     ReportFull,
 }
 
-// How a refusal is told: its number, the layer that refuses, and the place at fault.
+// How an answer tells a refusal: its number, the layer that refuses, and the place at fault, 0 where there is none, as the format has it.
 #[derive(Clone, Copy, PartialEq, Eq, Debug)]
 pub struct RefusalCode {
     pub number: u32,
@@ -78,7 +79,7 @@ impl From<Refusal> for RefusalCode {
     }
 }
 
-// A refusal reports nothing.
+// A refusal tells no row: every row of the report is blanked, which `?` alone would not do.
 pub fn refuse<T>(report: &mut [Row], why: Refusal) -> Result<T, Refusal>
     ensures answer { result ≡ Err why }
     ensures blank { report.new ≡ blank (length report.old) }

@@ -5,6 +5,7 @@ ghost use Rattle.market.specs.Rows.{kind_number, kind_letter, blank_row};
 use crate::price::Amount;
 
 // What a row tells of: nothing, a contract trade, a leg of a trade between combinations, a combination trade, a cancellation.
+// Blank is a kind, and no None of a row: by its format a report has rows of one form, of which those past the last are zeros.
 #[derive(Clone, Copy, PartialEq, Eq, Debug)]
 pub enum RowKind {
     Blank,
@@ -14,6 +15,7 @@ pub enum RowKind {
     Cancellation,
 }
 
+// The number of each kind in the format.
 impl From<RowKind> for u32 {
     ghost from_gives = { λ kind n. n ≡ kind_number kind };
 
@@ -28,6 +30,7 @@ impl From<RowKind> for u32 {
     }
 }
 
+// The letter of each kind in the text of a report.
 impl From<RowKind> for char {
     ghost from_gives = { λ kind letter. letter ≡ kind_letter kind };
 
@@ -42,7 +45,7 @@ impl From<RowKind> for char {
     }
 }
 
-// The book is an instrument's or a combination's number; an absent buyer or seller is 0.
+// The book is an instrument's or a combination's number; an absent buyer or seller is 0, and so is the fill of a cancellation, as the format has it.
 #[derive(Clone, Copy)]
 pub struct Row {
     pub kind: RowKind,
@@ -55,7 +58,7 @@ pub struct Row {
 }
 
 impl Row {
-    // The row of zeros that stands past the last.
+    // The row of zeros that stands past the last; under its own name, which says more than a default.
     pub fn blank() -> Row
         ensures { result ≡ blank_row }
     {

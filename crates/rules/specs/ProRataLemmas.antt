@@ -36,6 +36,7 @@ module _ (f : ℕ → ℕ) where
 
 -- the parts of `give`, which is below `sum`
 module _ (give sum : ℕ) (short : give < sum) where
+  -- the part of one quantity
   abbrev pub part : ℕ → ℕ
   part q = q * give / sum
 

@@ -25,9 +25,10 @@ impl AllocationRule for PriceTime {
           sum = λ qs give _. price_time_sum qs give;
         } };
 
+    // Pro rata has two loops of this shape; one for all would take the share from a closure that changes what is left, which is no plainer.
     fn divide(&self, quantities: &[u32], give: u32, out: &mut [u32]) {
         let mut left = give;
-        // With its index: of a slice that a zip walks by `iter_mut` a proof knows no element.
+        // By index; tried: after a loop over a zip with `iter_mut` no proof knows the elements of `out`.
         for (i, q) in quantities.iter().enumerate() {
             let share = share_of(*q, left);
             out[i] = share;

@@ -26,7 +26,7 @@ fn write_parts(quantities: &[u32], give: u32, sum: u32, out: &mut [u32]) -> u32
     ensures given { result ≡ total (parts give sum quantities.now) }
 {
     let mut given = 0;
-    // With its index: of a slice that a zip walks by `iter_mut` a proof knows no element.
+    // By index; tried: after a loop over a zip with `iter_mut` no proof knows the elements of `out`.
     for (i, q) in quantities.iter().enumerate() {
         let part = (*q as u64 * give as u64 / sum as u64) as u32;
         out[i] = part;
@@ -47,7 +47,7 @@ fn add_one_each(quantities: &[u32], mut left: u32, out: &mut [u32])
     requires { length out.old ≡ length quantities.now }
     ensures { out.new ≡ one_each quantities.now out.old left }
 {
-    // With its index: of a slice that a zip walks by `iter_mut` a proof knows no element.
+    // By index; tried: after a loop over a zip with `iter_mut` no proof knows the elements of `out`.
     for (i, q) in quantities.iter().enumerate() {
         let more = one_more(*q, out[i], left);
         out[i] += more;

@@ -4,14 +4,14 @@ ghost use Rattle.market.specs.BookCalls.{Enters, Cancels, withdrawn};
 ghost use Rattle.market.specs.Endings.{Follows};
 ghost use Rattle.market.specs.Venues.{owned};
 ghost use Rattle.book.specs.Closing.{book_state, Closes};
+ghost use Rattle.book.specs.Held.{held};
 
 use super::Book;
+use crate::draft::Draft;
+use crate::entering::Entering;
 use crate::lot::lot_size;
-use crate::matching::match_order;
 use crate::orders::Orders;
-use crate::remainder::{arriving, settle};
 use crate::rows::cancel_row;
-use crate::scratch::Scratch;
 use crate::told::Told;
 use market::acceptance::Acceptance;
 use market::arrival::Arrival;
@@ -33,8 +33,7 @@ impl Book {
     {
         Ok(Book {
             resting: Orders::new(heap)?,
-            draft: Orders::new(heap)?,
-            scratch: Scratch::new(heap)?,
+            draft: Draft::new(heap)?,
             next: 1,
         })
     }
@@ -47,12 +46,12 @@ impl Book {
         told: &mut Told<'_>,
     ) -> Result<(u32, u32), Refusal>
         requires { next ≤ 100000 }
-        ensures { Closes (book_state self.old) acceptance self.old.draft.inner.orders.items next told.old result told.new (book_state self.new) }
+        ensures { Closes (book_state self.old) acceptance (held self.old.draft.orders) next told.old result told.new (book_state self.new) }
     {
         if told.count.is_none() {
             return refuse(told.rows, Refusal::ReportFull);
         }
-        mem::swap(&mut self.resting, &mut self.draft);
+        mem::swap(&mut self.resting, &mut self.draft.orders);
         self.next = next;
         Ok(acceptance.into())
     }
@@ -79,17 +78,10 @@ impl Book {
         if number > LAST_NUMBER {
             return Err(Refusal::NumbersSpent);
         }
-        self.draft.copy_from(&self.resting);
-        let order = arriving(arrival, number);
-        let left = match_order(rule, &mut self.draft, order, &mut self.scratch, &mut told);
-        let traded = settle(
-            &self.resting,
-            &mut self.draft,
-            arrival,
-            number,
-            left,
-            &mut told,
-        )?;
+        self.draft.orders.copy_from(&self.resting);
+        let entering = Entering::new(arrival, number);
+        let left = self.draft.match_order(rule, entering, &mut told);
+        let traded = self.draft.settle(&self.resting, entering, left, &mut told)?;
         self.close(
             Acceptance::Entered { number, traded },
             number + 1,
@@ -103,9 +95,10 @@ impl Book {
         ensures { Follows (Cancels (book_state self.old) id.participant id.number) (book_state self.old) (length report.old) result report.new (book_state self.new) }
     {
         let mut told = Told::start(report);
+        // Asked for before, by `owns`: whether it is there is a condition of the gate, which is tried among its others.
         let i = self.resting.find_own(id).unwrap();
-        self.draft.copy_from(&self.resting);
-        let order = self.draft.remove(i);
+        self.draft.orders.copy_from(&self.resting);
+        let order = self.draft.orders.remove(i);
         told.push(cancel_row(&order));
         let cancelled = Acceptance::Cancelled {
             number: id.number,
@@ -119,8 +112,8 @@ impl Book {
         ensures { Follows (λ e. e ≡ withdrawn which (book_state self.old)) (book_state self.old) (length report.old) result report.new (book_state self.new) }
     {
         let mut told = Told::start(report);
-        self.draft.copy_from(&self.resting);
-        let orders = self.draft.take_out(which, &mut told);
+        self.draft.orders.copy_from(&self.resting);
+        let orders = self.draft.orders.take_out(which, &mut told);
         self.close(Acceptance::Switched { orders }, self.next, &mut told)
     }
 }

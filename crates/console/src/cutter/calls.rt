@@ -1,5 +1,5 @@
 // The calls of a cutter.
-ghost use Rattle.std.specs.Prelude.{◌≡◌, ℕ, ◌<◌, ◌≤◌, List, [], ◌++◌, length, take as take_front, position, IfOk, vec_len, vec_capacity, ◌==◌};
+ghost use Rattle.std.specs.Prelude.{◌≡◌, ℕ, ◌<◌, ◌≤◌, List, [], ◌++◌, length, take as take_front, position, IfOk, vec_capacity, ◌==◌};
 ghost use Rattle.console.specs.Lines.{LinesPart};
 ghost use Rattle.console.specs.Cuts.{start, kept, pending, used_by, handed_by, Fed, Cuts};
 
@@ -9,20 +9,7 @@ use std::alloc::{AllocError, Global};
 // How many bytes of a line are kept.
 const KEPT: usize = 1201;
 
-// Adds to a line, of which no more than its start is kept.
-fn keep(line: &mut Vec<u8>, more: &[u8])
-    requires { (vec_len line.old ≤ 1201) × (1201 ≤ vec_capacity line.old) }
-    ensures items { line.new.items ≡ start (line.old.items ++ more.now) }
-    ensures len { vec_len line.new ≤ 1201 }
-    ensures capacity { vec_capacity line.new ≡ vec_capacity line.old }
-{
-    let n = more.len().min(KEPT - line.len());
-    for byte in &more[..n] {
-        line.push_reserved(*byte);
-    }
-}
-
-// Where the first newline of a block stands.
+// Where the first newline of a block stands; beside `take`, whose proof reads this one equation and not the closure.
 fn newline(block: &[u8]) -> Option<usize>
     ensures { result ≡ position (λ b. b == 10) block.now }
 {
@@ -49,22 +36,15 @@ impl LineCutter {
         ensures within { used_by result block.now ≤ length block.now }
         ensures forward { 0 < length block.now → 0 < used_by result block.now }
     {
-        self.cut(block)
-    }
-
-    // One cut.
-    fn cut(&mut self, block: &[u8]) -> Option<usize>
-        ensures { Cuts self.old block.now result self.new }
-    {
         self.begin();
         match newline(block) {
             Some(n) => {
-                keep(&mut self.line, &block[..n]);
+                self.keep(&block[..n]);
                 self.complete = true;
                 Some(n + 1)
             }
             None => {
-                keep(&mut self.line, block);
+                self.keep(block);
                 self.complete = false;
                 None
             }
@@ -78,6 +58,18 @@ impl LineCutter {
     {
         if self.complete {
             self.line.clear();
+        }
+    }
+
+    // Adds to the line at hand, of which no more than its start is kept.
+    fn keep(&mut self, more: &[u8])
+        ensures items { kept self.new ≡ start (kept self.old ++ more.now) }
+        ensures capacity { vec_capacity self.new.line ≡ vec_capacity self.old.line }
+    {
+        let n = more.len().min(KEPT - self.line.len());
+        // Byte by byte, since of extend_from_slice only a capacity that does not shrink is known, and no later call may take memory.
+        for byte in &more[..n] {
+            self.line.push_reserved(*byte);
         }
     }
 

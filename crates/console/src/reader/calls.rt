@@ -1,7 +1,7 @@
 // The calls of a reader.
-ghost use Rattle.std.specs.Prelude.{◌≡◌, ◌<◌, true, false, [], IfOk, OnErr, OnOk};
+ghost use Rattle.std.specs.Prelude.{◌≡◌, [], IfOk, OnErr, OnOk};
 ghost use Rattle.console.specs.Cuts.{kept, pending};
-ghost use Rattle.console.specs.Reading.{unread, CutOn, Keeps, Breaks, AtEnd, Finds};
+ghost use Rattle.console.specs.Reading.{unread, Keeps, Breaks, AtEnd, Finds};
 
 use super::LineReader;
 use crate::buffered::BufferedWire;
@@ -39,12 +39,11 @@ impl LineReader {
         self.cutter.line()
     }
 
-    // Sees that something is unread; false at the end of the input.
-    fn fill<W: Wire>(&mut self, wire: &mut BufferedWire<W>) -> anyhow::Result<bool>
+    // Reads the next block where all of the last one is cut; only at the end of the input is nothing unread then.
+    fn fill<W: Wire>(&mut self, wire: &mut BufferedWire<W>) -> anyhow::Result<()>
         ensures same { wire.new.wire.ghost_name ≡ wire.old.wire.ghost_name }
         ensures keeps { OnOk result (Keeps W.Wire.log self.old wire.old self.new wire.new) }
-        ensures ended { IfOk result (λ more. more ≡ false → AtEnd W.Wire.over self.new wire.new) }
-        ensures some { IfOk result (λ more. more ≡ true → self.new.at < self.new.end) }
+        ensures ended { OnOk result (self.new.at ≡ self.new.end → AtEnd W.Wire.over self.new wire.new) }
         ensures failed { OnErr result (Breaks W.Wire.log self.old wire.old wire.new) }
     {
         if self.at == self.end {
@@ -52,23 +51,7 @@ impl LineReader {
             self.at = 0;
             self.end = n;
         }
-        Ok(self.at < self.end)
-    }
-
-    // Cuts on in what is unread; true where a line is complete.
-    fn cut(&mut self) -> bool
-        ensures { CutOn self.old result self.new }
-    {
-        match self.cutter.take(&self.block[self.at..self.end]) {
-            Some(used) => {
-                self.at += used;
-                true
-            }
-            None => {
-                self.at = self.end;
-                false
-            }
-        }
+        Ok(())
     }
 
     // Cuts the next line; none at the end of the input.
@@ -80,12 +63,18 @@ impl LineReader {
         ensures* found { sem 𝓛 (Rests the_row self.entry (λ new. IfOk result (λ line. Finds W.Wire.log W.Wire.over self.old wire.old line new wire.new))) }
         ensures failed { OnErr result (Breaks W.Wire.log self.old wire.old wire.new) }
     {
+        // Input has no known end, and each loop is proved to end: a count that no input reaches. This loop reads blocks until a line is cut; that of a session answers lines.
         for _ in 0..u64::MAX {
-            if !self.fill(wire)? {
+            self.fill(wire)?;
+            if self.at == self.end {
                 return Ok(None);
             }
-            if self.cut() {
-                return Ok(Some(self.cutter.line()));
+            match self.cutter.take(&self.block[self.at..self.end]) {
+                Some(used) => {
+                    self.at += used;
+                    return Ok(Some(self.cutter.line()));
+                }
+                None => self.at = self.end,
             }
         }
         Err(anyhow!("the input does not end"))

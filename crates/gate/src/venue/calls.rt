@@ -9,7 +9,7 @@ ghost use Rattle.gate.specs.Views.{view, BuiltWith, refusal_of};
 
 use super::Venue;
 use crate::build_error::BuildError;
-use crate::fault::{judge, unless, within_band};
+use crate::fault::{check_participant, judge, unless, within_band};
 use crate::trading::Trading;
 use book::book::Book;
 use market::arrival::Arrival;
@@ -23,6 +23,10 @@ use market::row::Row;
 use rules::rule::AllocationRule;
 use std::alloc::Global;
 
+// The most contracts that an order may be for.
+const MOST_CONTRACTS: u32 = 10_000;
+
+// A refusal also blanks the report, so that `?` alone would not do where a call is refused here.
 impl<R: AllocationRule> Venue<R> {
     // A venue in Pre Open with no order, or a refusal where a band is broken; memory is taken only once the bands are judged sound.
     pub fn build(
@@ -56,22 +60,18 @@ impl<R: AllocationRule> Venue<R> {
         ensures { Judges (fault (view self.now) (Enter arrival.participant arrival.instrument arrival.side arrival.quantity.0 arrival.price arrival.duration)) result }
     {
         unless(self.trading.open(), Refusal::Phase)?;
-        unless(
-            (1..=999).contains(&arrival.participant),
-            Refusal::Participant,
-        )?;
+        check_participant(arrival.participant)?;
         let band = self
             .trading
             .band(arrival.instrument)
             .ok_or(Refusal::Unknown(2))?;
         unless(
-            (1..=10_000).contains(&arrival.quantity.0),
+            (1..=MOST_CONTRACTS).contains(&arrival.quantity.0),
             Refusal::Quantity(4),
         )?;
         unless(within_band(band, arrival.price), Refusal::Price(5))
     }
 
-    // A refusal also blanks the report, so that `?` alone would not do.
     fn enter(&mut self, arrival: Arrival, report: &mut [Row]) -> Result<(u32, u32), Refusal>
         ensures follows { Follows (Does (R.AllocationRule.shares self.old.rule) (view self.old) (Enter arrival.participant arrival.instrument arrival.side arrival.quantity.0 arrival.price arrival.duration)) (view self.old) (length report.old) result report.new (view self.new) }
         ensures rule { self.new.rule ≡ self.old.rule }
@@ -87,7 +87,7 @@ impl<R: AllocationRule> Venue<R> {
         ensures { Judges (fault (view self.now) (Cancel id.participant id.number)) result }
     {
         unless(self.trading.serving(), Refusal::Phase)?;
-        unless((1..=999).contains(&id.participant), Refusal::Participant)?;
+        check_participant(id.participant)?;
         unless(self.book.owns(id), Refusal::Order)
     }
 
@@ -127,12 +127,11 @@ impl<R: AllocationRule> Venue<R> {
                 price,
                 duration,
             } => {
-                let quantity = Contracts(quantity);
                 let arrival = Arrival {
                     participant,
                     instrument: book,
                     side,
-                    quantity,
+                    quantity: Contracts(quantity),
                     price,
                     duration,
                 };

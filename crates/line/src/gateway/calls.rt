@@ -40,7 +40,7 @@ where
 }
 
 impl<R: AllocationRule> Gateway<R> {
-    // Builds a venue as the line says, under the rule; want of memory is an error outside the table of refusals, and comes only after the line is judged.
+    // Builds a venue as the line says, under the rule; where there is no memory, that is an error outside the table of refusals, and comes only after the line is judged.
     pub fn build(heap: Global, rule: R, line: &[u8]) -> Result<Opening<R>, BuildError>
     where
         R: Drop,
@@ -58,6 +58,7 @@ impl<R: AllocationRule> Gateway<R> {
         ensures checked { by_line result ≡ not (check_code (line_call line.now) == 0) }
         ensures session { GoesOn (R.AllocationRule.shares self.old.venue.rule) (view self.old.venue) (turn_of line.now (length report.old) result report.new) (view self.new.venue) }
     {
+        // A refusal also blanks the report, which `?` alone would not do.
         match read_call(line) {
             Ok(call) => self.venue.call(call, report),
             Err(refusal) => refuse(report, refusal),

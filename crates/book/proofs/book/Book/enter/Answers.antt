@@ -21,14 +21,15 @@ returns-in_err-traded g c =
     let s = c.start-told in
     let o = c.match_order-left in
     let t = c.settle in
+    let settles = t.ensures c.args.arrival m.next c.new-entering.ensures.order c.new-entering.ensures.duration in
     let p = err_from_is_err_and c.from_residual.result c.from_residual.ensures.1 in
     let e = c.in_err-traded.field-0.0 in
     let few : m.next ≤ 99999 = omega (arith, c.if-number-gt-LAST_NUMBER.false) in
-    let done : Settled (Enters shares m c.args.arrival) m.next (Err e) (vec_items t.new.draft.inner.orders) t.new.told =
-    settled_by shares c.args.arrival m.next c.arriving-order.result (vec_items c.copy_from.new.self.inner.orders) m.orders s.result o.result (vec_items o.new.orders.inner.orders) o.new.told (Err e) (vec_items t.new.draft.inner.orders) t.new.told
-    c.arriving-order.ensures c.copy_from.ensures few o.ensures.run s.ensures.holds c.in_err-traded.ensures in
+    let done : Settled (Enters shares m c.args.arrival) m.next (Err e) (vec_items t.new.self.orders.inner.orders) t.new.told =
+    settled_by shares c.args.arrival m.next c.new-entering.result.order (vec_items c.copy_from.new.self.inner.orders) m.orders s.result o.result (vec_items o.new.self.orders.inner.orders) o.new.told (Err e) (vec_items t.new.self.orders.inner.orders) t.new.told
+    c.new-entering.ensures.order c.copy_from.ensures few o.ensures.run s.ensures.holds (c.in_err-traded.ensures c.args.arrival m.next c.new-entering.ensures.order c.new-entering.ensures.duration) in
     follows_refused (Enters shares m c.args.arrival) m (length c.args.report.now) e c.from_residual.result t.new.told _ (p.1 ∙ ap Err p.2) done.0 (search rules)
-    (done.1 ∙ ap blank (t.ensures.report.long ∙ o.ensures.run.more.report.long ∙ blank_long s.result.rows.now (length c.args.report.now) s.ensures.blank))
+    (done.1 ∙ ap blank (settles.report.long ∙ o.ensures.run.more.report.long ∙ blank_long s.result.rows.now (length c.args.report.now) s.ensures.blank))
 
 pub returns : goal.returns
 returns g c =
@@ -37,11 +38,12 @@ returns g c =
     let s = c.start-told in
     let o = c.match_order-left in
     let t = c.settle in
+    let settles = t.ensures c.args.arrival m.next c.new-entering.ensures.order c.new-entering.ensures.duration in
     let traded = c.in_ok-traded.traded in
     let few : m.next ≤ 99999 = omega (arith, c.if-number-gt-LAST_NUMBER.false) in
-    let ready : Settled (Enters shares m c.args.arrival) m.next (Ok traded) (vec_items t.new.draft.inner.orders) t.new.told =
-    settled_by shares c.args.arrival m.next c.arriving-order.result (vec_items c.copy_from.new.self.inner.orders) m.orders s.result o.result (vec_items o.new.orders.inner.orders) o.new.told (Ok traded) (vec_items t.new.draft.inner.orders) t.new.told
-    c.arriving-order.ensures c.copy_from.ensures few o.ensures.run s.ensures.holds c.in_ok-traded.ensures in
-    follows_closed (Enters shares m c.args.arrival) m (length c.args.report.now) (Entered m.next traded) (vec_items t.new.draft.inner.orders) (m.next + 1) t.new.told _ c.close.new.told _ _
-    s.result s.ensures.blank (t.ensures.report.long ∙ o.ensures.run.more.report.long) (search rules)
+    let ready : Settled (Enters shares m c.args.arrival) m.next (Ok traded) (vec_items t.new.self.orders.inner.orders) t.new.told =
+    settled_by shares c.args.arrival m.next c.new-entering.result.order (vec_items c.copy_from.new.self.inner.orders) m.orders s.result o.result (vec_items o.new.self.orders.inner.orders) o.new.told (Ok traded) (vec_items t.new.self.orders.inner.orders) t.new.told
+    c.new-entering.ensures.order c.copy_from.ensures few o.ensures.run s.ensures.holds (c.in_ok-traded.ensures c.args.arrival m.next c.new-entering.ensures.order c.new-entering.ensures.duration) in
+    follows_closed (Enters shares m c.args.arrival) m (length c.args.report.now) (Entered m.next traded) (vec_items t.new.self.orders.inner.orders) (m.next + 1) t.new.told _ c.close.new.told _ _
+    s.result s.ensures.blank (settles.report.long ∙ o.ensures.run.more.report.long) (search rules)
     ready c.close.ensures

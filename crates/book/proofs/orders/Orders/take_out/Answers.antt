@@ -1,5 +1,8 @@
-use Rattle.std.proofs.Common.{◌≡◌, ◌+◌, ◌<◌, ◌≤◌, Bool, true, not, List, [], ◌∷◌, ◌++◌, map, length, get_or, take, vec_items, filter, rules, sym, ap, ◌∙◌, subst, arith}
-use Rattle.std.proofs.lemmas.List.{length_push}
+use Rattle.std.proofs.Common.{◌≡◌, ◌<◌, ◌≤◌, Bool, not, List, [], ◌∷◌, ◌++◌, map, length, vec_items, filter, rules, sym, refl, ap, ◌∙◌, subst, arith}
+use Rattle.std.proofs.lemmas.List.Filters.{length-filter_both}
+use Rattle.std.proofs.lemmas.List.{map-append}
+use Rattle.std.proofs.lemmas.Iterator.{YieldsList-from_slice}
+use Rattle.std.proofs.lemmas.Iterator.Consumers.{YieldsList-at, YieldsList-from_filter, YieldsList-end}
 use Rattle.std.proofs.lemmas.Fn.{filter_same}
 use Rattle.std.proofs.lemmas.List.Elements.{All-filter}
 use Rattle.market.specs.declared.order.Order.{Order}
@@ -9,36 +12,28 @@ use Rattle.market.specs.Orders.{quantity_of}
 use Rattle.market.specs.Rows.{cancel_row}
 use Rattle.book.specs.Bounds.{Small, Positive}
 use Rattle.book.specs.Reports.{Tells}
-use Rattle.book.proofs.Leaving.{kept_yes, kept_no, rows_yes}
-use Rattle.book.proofs.Levels.{no_order}
 use Rattle.book.proofs.Reports.{tells_then}
 use Rattle.book.proofs.orders.Orders.take_out.Goals as goal
-use Rattle.book.proofs.orders.Orders.take_out.Goals.{then-leaves, else-leaves}
 
 pub loop-order-preserved : goal.loop-order-preserved
 loop-order-preserved c =
-    let os = c.as_slice-order-items.result.now in
-    let i = c.loop-order.order-index in
-    let out = leaves c.args.which in
-    let o = get_or os i no_order in
-    let lt : i < length os = omega arith in
-    let told = map cancel_row (filter out (take i os)) in
-    elim c.if-leaves.branch [
-      | then-leaves w ↦
-          let yes : out o ≡ true = sym w.if-leaves.ensures in
-          let rows : told ++ w.cancel_row.result ∷ [] ≡ map cancel_row (filter out (take (i + 1) os)) =
-          ap (λ (r : Row). told ++ r ∷ []) w.cancel_row.ensures ∙ sym (rows_yes out os i no_order lt yes) in (
-            w.count-is ∙ omega (arith, c.loop-order.invariant.0, ap length (kept_yes out os i no_order lt yes), length_push (filter out (take i os)) o),
-            rw w.told-is (subst (λ (rs : List Row). Tells c.args.told.now rs w.push.new.self) rows (tells_then c.args.told.now c.loop-order.told w.push.new.self told (w.cancel_row.result ∷ []) c.loop-order.invariant.1 w.push.ensures)),
-            omega (arith, w.count-is, c.loop-order.invariant.2),
-          )
-      | else-leaves w ↦
-          let kept = sym (kept_no out os i no_order lt (sym w.if-leaves.ensures)) in (
-            w.count-is ∙ c.loop-order.invariant.0 ∙ ap length kept,
-            rw w.told-is (subst (λ (xs : List Order). Tells c.args.told.now (map cancel_row xs) c.loop-order.told) kept c.loop-order.invariant.1),
-            omega (arith, w.count-is, c.loop-order.invariant.2),
-          )
-    ]
+    let ys = c.loop-order.yielded in
+    let x = c.in-Some.order in
+    let told = map cancel_row (map (λ o. o.now) ys) in
+    let rows : told ++ c.cancel_row.result ∷ [] ≡ map cancel_row (map (λ o. o.now) (ys ++ x ∷ [])) =
+    ap (λ (r : Row). told ++ r ∷ []) c.cancel_row.ensures ∙ sym (ap (map cancel_row) (map-append (λ o. o.now) ys (x ∷ [])) ∙ map-append cancel_row (map (λ o. o.now) ys) (x.now ∷ [])) in (
+      search rules,
+      search rules,
+      subst (λ (rs : List Row). Tells c.args.told.now rs c.push.new.self) rows (tells_then c.args.told.now c.loop-order.told c.push.new.self told (c.cancel_row.result ∷ []) c.loop-order.invariant.2 c.push.ensures),
+    )
+
+pub returns-clause-rows : goal.returns-clause-rows
+returns-clause-rows c =
+    let seen = YieldsList-end
+    (YieldsList-at c.into_iter-order-iterator.ensures.into_iter_gives
+    (YieldsList-from_filter _ (leaves c.args.which) (YieldsList-from_slice c.as_slice.result.now cc) c.filter-order-items.ensures.closure (λ x r q k. search rules)))
+    c.loop-order.yielded _ c.loop-order.yielded_by _ _ c.in-None.is c.next.ensures.steps in
+    subst (λ (os : List Order). Tells c.args.told.now (map cancel_row os) c.loop-order.told) (seen.0 ∙ ap (filter (leaves c.args.which)) c.as_slice.ensures) c.loop-order.invariant.2
 
 pub invariant_of-self : goal.invariant_of-self
 invariant_of-self c =
@@ -54,3 +49,9 @@ invariant_of-self c =
 
 pub returns-clause-orders : goal.returns-clause-orders
 returns-clause-orders c = filter_same _ (λ o. not (leaves c.args.which o)) _ (λ x b f' k. search rules) _ _ c.retain.ensures.filtered
+
+pub returns-clause-count : goal.returns-clause-count
+returns-clause-count c =
+    let os = vec_items c.args.self.now.inner.orders in
+    let is = filter_same _ (λ o. not (leaves c.args.which o)) _ (λ x b f' k. search rules) _ _ c.retain.ensures.filtered in
+    omega (arith, ap length is, ap length c.as_slice-before.ensures, ap length c.as_slice-2.ensures, length-filter_both (leaves c.args.which) (λ o. not (leaves c.args.which o)) (λ _. refl) os)

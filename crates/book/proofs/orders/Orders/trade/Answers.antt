@@ -1,5 +1,5 @@
-use Rattle.std.proofs.Common.{◌≡◌, ap, length, subst, sym, vec_items, arith}
-use Rattle.market.specs.Levels.{after_fill}
+use Rattle.std.proofs.Common.{◌≡◌, filter, ap, ◌∙◌, length, subst, sym, vec_items, arith}
+use Rattle.market.specs.Levels.{still_open, after_fill}
 use Rattle.market.proofs.Asking.{bounded_after_fill}
 use Rattle.book.specs.Bounds.{Small, Positive}
 use Rattle.book.specs.Facing.{faces}
@@ -12,11 +12,14 @@ invariant_of-self c =
     let os = vec_items old.inner.orders in
     let test = faces c.args.fill.taker c.args.fill.price in
     let ks = c.args.shares.now in
-    let is : vec_items c.trade.new.self.orders ≡ after_fill test os ks = c.trade.ensures.orders in
+    let is : vec_items c.drop_spent.new.self.orders ≡ after_fill test os ks = c.drop_spent.ensures.orders ∙ ap (filter still_open) c.take_shares.ensures.orders in
     let kept = bounded_after_fill test os ks (within_bounds old) in
     record {
       small = subst Small (sym is) kept.small;
       positive = subst Positive (sym is) (positive_after test os ks);
-      few = omega (arith, c.trade.new.self.orders.ok.0, ap length is, kept.few);
-      room = omega (arith, c.trade.ensures.capacity, old.room);
+      few = omega (arith, c.drop_spent.new.self.orders.ok.0, ap length is, kept.few);
+      room = omega (arith, c.drop_spent.ensures.capacity, c.take_shares.ensures.capacity, old.room);
     }
+
+pub returns-clause-orders : goal.returns-clause-orders
+returns-clause-orders c = c.drop_spent.ensures.orders ∙ ap (filter still_open) c.take_shares.ensures.orders

@@ -1,8 +1,6 @@
-use Rattle.std.proofs.Common.{[], Ok, Err, vec_items, Option, sym, ◌∙◌, subst}
+use Rattle.std.proofs.Common.{[], Ok, Err, sym, ◌∙◌, subst}
 use Rattle.std.proofs.lemmas.Result.{on_ok_weaker, on_err_weaker}
 use Rattle.gate.specs.Views.{view}
-use Rattle.line.specs.declared.gateway.Gateway.{Gateway}
-use Rattle.console.specs.Answering.{BuildAnswered}
 use Rattle.console.specs.Sessions.{Reply, not_built}
 use Rattle.console.specs.Text.{answer_text}
 use Rattle.console.proofs.Breaking.{refused_any, broken_unanswered, broken_writing}
@@ -16,14 +14,9 @@ returns-in_err-open_venue-clause-failed g c = refused_any c.from_residual.result
 
 pub returns-in-None-clause-served : goal.returns-in-None-clause-served
 returns-in-None-clause-served g c =
-    let shares = g.R.AllocationRule.shares in
-    let head = c.line.result.now in
-    let out = vec_items c.args.self.now.wire.text in
-    let out' = vec_items c.open_venue.new.out in
-    let told = subst (λ (o : Option (Gateway g.row.R.Denot)). BuildAnswered shares c.args.rule head out out' o) c.in-None.is c.in_ok-open_venue.ensures in
     both_then c.flush.result
     (λ logged empty rules used line _ s only is.
-    let f = first_refused shares c.args.rule head line out out' (c.line.ensures ∙ is) told in
+    let f = first_refused line (c.line.ensures ∙ is) c.in-None.is c.in_ok-open_venue.ensures in
     let text = answer_text (Err f.e) in
     served_refused rules g.W.Wire.log g.W.Wire.over c.args.self.now.reader c.flush.new.self used line f.e only f.refused empty (flushed logged empty (appended c.open_venue.new.out (answer_text (Err f.e)) f.written s)))
     c.flush.ensures.logged
@@ -31,14 +24,9 @@ returns-in-None-clause-served g c =
 
 pub returns-in-None-clause-failed : goal.returns-in-None-clause-failed
 returns-in-None-clause-failed g c =
-    let shares = g.R.AllocationRule.shares in
-    let head = c.line.result.now in
-    let out = vec_items c.args.self.now.wire.text in
-    let out' = vec_items c.open_venue.new.out in
-    let told = subst (λ (o : Option (Gateway g.row.R.Denot)). BuildAnswered shares c.args.rule head out out' o) c.in-None.is c.in_ok-open_venue.ensures in
     on_err_weaker c.flush.result
     (λ failed rules used line _ s only is.
-    let f = first_refused shares c.args.rule head line out out' (c.line.ensures ∙ is) told in
+    let f = first_refused line (c.line.ensures ∙ is) c.in-None.is c.in_ok-open_venue.ensures in
     let text = answer_text (Err f.e) in
     broken_writing used text (subst (λ ls. Reply rules ls text) (sym only) (not_built line [] f.e f.refused)) (appended c.open_venue.new.out text f.written s) (g.W.Wire.log c.flush.new.self.wire.now) failed)
     c.flush.ensures.failed
@@ -49,13 +37,9 @@ returns-in-Some-clause-served g c =
     let gateway = c.in-Some.gateway in
     let v = view gateway.venue in
     let after = c.answer_all.new.self in
-    let head = c.line.result.now in
-    let out = vec_items c.args.self.now.wire.text in
-    let out' = vec_items c.open_venue.new.out in
-    let told = subst (λ (o : Option (Gateway g.row.R.Denot)). BuildAnswered shares c.args.rule head out out' o) c.in-Some.is c.in_ok-open_venue.ensures in
     on_ok_weaker c.answer_all.result
     (λ all rules used line suits s only is.
-    let f = first_built shares c.args.rule head line out out' (c.line.ensures ∙ is) gateway told in
+    let f = first_built line (c.line.ensures ∙ is) c.in-Some.is c.in_ok-open_venue.ensures in
     let text = answer_text (Ok f.answer) in
     let on = reply_on rules shares used line gateway f suits only in
     served_all {s = after} rules (shares gateway.venue.rule) v used text on (all rules used text on (appended c.open_venue.new.out text f.written s)))
@@ -65,13 +49,9 @@ pub returns-in-Some-clause-failed : goal.returns-in-Some-clause-failed
 returns-in-Some-clause-failed g c =
     let shares = g.R.AllocationRule.shares in
     let gateway = c.in-Some.gateway in
-    let head = c.line.result.now in
-    let out = vec_items c.args.self.now.wire.text in
-    let out' = vec_items c.open_venue.new.out in
-    let told = subst (λ (o : Option (Gateway g.row.R.Denot)). BuildAnswered shares c.args.rule head out out' o) c.in-Some.is c.in_ok-open_venue.ensures in
     on_err_weaker c.answer_all.result
     (λ failed rules used line suits s only is.
-    let f = first_built shares c.args.rule head line out out' (c.line.ensures ∙ is) gateway told in
+    let f = first_built line (c.line.ensures ∙ is) c.in-Some.is c.in_ok-open_venue.ensures in
     let text = answer_text (Ok f.answer) in
     failed rules used text (reply_on rules shares used line gateway f suits only) (appended c.open_venue.new.out text f.written s))
     c.answer_all.ensures.failed

@@ -5,24 +5,24 @@ use Rattle.market.specs.Lists.{Below}
 use Rattle.market.specs.Matching.{facing, divided}
 use Rattle.market.proofs.Asking.{asked, shares_below}
 use Rattle.book.proofs.Bounds.{within_bounds, level_read}
-use Rattle.book.proofs.matching.fill_level.Goals as goal
+use Rattle.book.proofs.draft.Draft.fill_level.Goals as goal
 
 pub divide-requires : goal.divide-requires
 divide-requires g c =
     let o = c.args.fill.taker in
     let p = c.args.fill.price in
-    let os = vec_items c.args.orders.now.inner.orders in
+    let os = vec_items c.args.self.now.orders.inner.orders in
     let read = c.read_level-level.ensures in
     let is = level_read o p os c.args.left c.place.result _ _ _ c.place.ensures read.collected read.total c.min-traded.ensures in
-    subst (λ (xs : List ℕ). Domain xs c.min-traded.result) (sym is.0) (subst (Domain (quantities (facing o p os))) (sym is.1) (asked o p os c.args.left (within_bounds c.args.orders.now) c.requires.best))
+    subst (λ (xs : List ℕ). Domain xs c.min-traded.result) (sym is.0) (subst (Domain (quantities (facing o p os))) (sym is.1) (asked o p os c.args.left (within_bounds c.args.self.now.orders) c.requires))
 
 pub trade-requires : goal.trade-requires
 trade-requires g c =
     let o = c.args.fill.taker in
     let p = c.args.fill.price in
-    let os = vec_items c.args.orders.now.inner.orders in
+    let os = vec_items c.args.self.now.orders.inner.orders in
     let shares = g.R.AllocationRule.shares c.args.rule.now in
     let read = c.read_level-level.ensures in
     let is = level_read o p os c.args.left c.place.result _ _ _ c.place.ensures read.collected read.total c.min-traded.ensures in
     let ks : c.as_slice-shares.result.now ≡ divided shares o p os c.args.left = ◌∙◌ {A = List ℕ} c.as_slice-shares.ensures.value (◌∙◌ {A = List ℕ} c.divide.ensures (λ j. shares (is.0 j) (is.1 j))) in
-    subst (λ (xs : List ℕ). Below xs (quantities (facing o p os))) (sym ks) (shares_below shares (g.met.R.AllocationRule.lawful c.args.rule.now) o p os c.args.left (within_bounds c.args.orders.now) c.requires.best)
+    subst (λ (xs : List ℕ). Below xs (quantities (facing o p os))) (sym ks) (shares_below shares (g.met.R.AllocationRule.lawful c.args.rule.now) o p os c.args.left (within_bounds c.args.self.now.orders) c.requires)

@@ -1,0 +1,40 @@
+// An order on entering the book.
+ghost use Rattle.std.specs.Prelude.{◌≡◌, ◌≤◌};
+ghost use Rattle.market.specs.Orders.{arriving, quantity_of};
+
+use market::arrival::Arrival;
+use market::call::Duration;
+use market::order::{Lot, Order};
+
+// The order, and how long what it does not trade may stand.
+#[derive(Clone, Copy)]
+pub(crate) struct Entering {
+    pub order: Order,
+    pub duration: Duration,
+    ghost small: { quantity_of order ≤ 10000 },
+}
+
+impl Entering {
+    // What arrives, under the number that it is given; no `From`, as that number comes beside it.
+    pub(crate) fn new(arrival: Arrival, number: u32) -> Entering
+        requires { arrival.quantity.0 ≤ 10000 }
+        ensures order { result.order ≡ arriving arrival number }
+        ensures duration { result.duration ≡ arrival.duration }
+    {
+        let order = Order {
+            number,
+            participant: arrival.participant,
+            side: arrival.side,
+            price: arrival.price,
+            lot: Lot::Outright {
+                instrument: arrival.instrument,
+                quantity: arrival.quantity,
+            },
+            quote: false,
+        };
+        Entering {
+            order,
+            duration: arrival.duration,
+        }
+    }
+}
