@@ -1,4 +1,4 @@
--- The best price, as a scan of the book finds it.
+-- The best price, as a scan of the book finds it; that it is the best by the market's rules (`Best`, or `NoneWithin` where there is none within the limit) stands above it, as `BestWithin` of `Matched`.
 use Rattle.std.specs.Prelude.{cond, List, [], ◌∷◌, map, Some, None, filter, Option}
 use Rattle.std.specs.List.{fold}
 use Rattle.market.specs.declared.book_id.BookId.{BookId}

@@ -1,8 +1,10 @@
-// Cases that no stored session can show: short reports, many build lines, and a session served from memory.
+// Cases that no stored session can show: short reports, many build lines, a call cloned, and a session served from memory.
 #![tactic(auto)]
 
 #[cfg(test)]
 mod builds;
+#[cfg(test)]
+mod clones;
 #[cfg(test)]
 mod memory;
 #[cfg(test)]
