@@ -5,13 +5,8 @@ ghost use Rattle.console.specs.Sessions.{rule_for, Served, BrokenOff};
 use crate::buffered::BufferedWire;
 use crate::reader::LineReader;
 use crate::session::{FULL, Session};
-use crate::wire::{StandardWire, Wire};
+use crate::wire::Wire;
 use std::alloc::Global;
-
-// Serves one session from standard input to standard output.
-pub fn serve(rt: &HostRuntime) -> anyhow::Result<()> {
-    serve_wire(rt.alloc(), &mut StandardWire { rt })
-}
 
 // Serves one session over any wire: the first line builds the venue, futures under price/time and options under pro rata.
 pub fn serve_wire<W: Wire>(heap: Global, wire: &mut W) -> anyhow::Result<()>

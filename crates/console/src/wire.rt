@@ -27,7 +27,7 @@ pub trait Wire {
 // Standard input and standard output.
 #[derive(Drop)]
 pub struct StandardWire<'a> {
-    pub(crate) rt: &'a HostRuntime,
+    pub rt: &'a HostRuntime,
 }
 
 // What the system read and wrote is known to no contract, so that the log says nothing.

@@ -1,8 +1,9 @@
 // The venue: lines of bytes in, answers and report rows out.
 #![tactic(auto)]
 
-use console::serving::serve;
+use console::serving::serve_wire;
+use console::wire::StandardWire;
 
 fn main(rt: HostRuntime) -> anyhow::Result<()> {
-    serve(&rt)
+    serve_wire(rt.alloc(), &mut StandardWire { rt: &rt })
 }
