@@ -1,11 +1,11 @@
 -- A loop that takes its share from each order of a level.
-use Rattle.std.proofs.Common.{◌≡◌, ℕ, ◌+◌, ◌<◌, Bool, true, false, cond, List, [], ◌∷◌, ◌++◌, length, get_or, take, drop, set, sym, ap, ◌∙◌, subst, arith}
+use Rattle.std.proofs.Common.{◌≡◌, ℕ, ◌+◌, ◌<◌, Bool, true, false, cond, List, [], ◌∷◌, ◌++◌, length, get_or, take, drop, set, refl, sym, ap, ◌∙◌, subst, arith}
 use Rattle.std.proofs.lemmas.List.{drop_more, take_more, take_more_set, drop-set-lt, length-set, append_assoc}
 use Rattle.std.proofs.lemmas.Bool.{cond-true, cond-false}
 use Rattle.market.specs.declared.order.Order.{Order}
 use Rattle.market.specs.declared.row.Row.{Row}
 use Rattle.market.specs.Levels.{quantities, reduced}
-use Rattle.market.specs.Lists.{Below}
+use Rattle.rules.specs.Domain.{Below}
 use Rattle.market.specs.Matching.{facing}
 use Rattle.market.specs.Orders.{less, quantity_of}
 use Rattle.market.specs.Rows.{fill_rows, some_row, trade_row}
@@ -34,6 +34,16 @@ module _ (fill : Fill) where
     pub below : Below ls (quantities (facers (drop k os)))
     pub long : length os ≡ length os₀
 
+  -- with no share all orders stay
+  reduced_none : (os : List Order) → reduced test os [] ≡ os
+  reduced_none [] = refl
+  reduced_none (o ∷ os) = refl
+
+  -- an order that is not of the level stays
+  reduced_other : (o : Order) (os : List Order) (ks : List ℕ) → test o ≡ false → reduced test (o ∷ os) ks ≡ o ∷ reduced test os ks
+  reduced_other o os [] e = ap (λ (zs : List Order). o ∷ zs) (sym (reduced_none os))
+  reduced_other o os (k ∷ ks) e = cond-false _ _ _ e
+
   module _ (os₀ os : List Order) (ks : List ℕ) (t₀ t : Told) (k : ℕ) (ls : List ℕ) (d : Order) (lt : k < length os) (g : Taking os₀ os ks t₀ t k ls) where
     abbrev here : Order
     here = get_or os k d
@@ -51,7 +61,7 @@ module _ (fill : Fill) where
     pub taking_no : test here ≡ false → Taking os₀ os ks t₀ t (k + 1) ls
     taking_no e =
         let r : reduced test (drop k os) ls ≡ here ∷ reduced test behind ls =
-        ap (λ (zs : List Order). reduced test zs ls) (drop_more os k d lt) ∙ cond-false _ _ _ e in
+        ap (λ (zs : List Order). reduced test zs ls) (drop_more os k d lt) ∙ reduced_other here behind ls e in
         let l : facers (drop k os) ≡ facers behind = ap facers (drop_more os k d lt) ∙ cond-false _ _ _ e in
         record {
           told = g.told;

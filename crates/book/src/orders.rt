@@ -3,7 +3,7 @@ ghost use Rattle.std.specs.Prelude.{◌≡◌, ◌<◌, ◌≤◌, ◌++◌, [],
 ghost use Rattle.std.specs.List.{remove};
 ghost use Rattle.market.specs.BookCalls.{leaves};
 ghost use Rattle.market.specs.Levels.{quantities, after_fill};
-ghost use Rattle.market.specs.Lists.{Below};
+ghost use Rattle.rules.specs.Domain.{Below};
 ghost use Rattle.market.specs.Matching.{facing};
 ghost use Rattle.market.specs.Orders.{own, quantity_of};
 ghost use Rattle.market.specs.Rows.{cancel_row, fill_rows};
@@ -24,7 +24,7 @@ use std::alloc::{AllocError, Global};
 // The most orders that rest at once.
 pub(crate) const MOST_ORDERS: usize = 256;
 
-// Its memory is taken once, when it is made; within a fill an order may have nothing open, so `positive` fails there.
+// Its memory is taken once, when it is made, and stays as it is (`room`); within a fill an order may have nothing open, so `positive` fails there.
 // A `Vec`, as 256 orders in place would be moved with each book.
 #[derive(Drop)]
 pub(crate) struct Orders {
@@ -32,7 +32,7 @@ pub(crate) struct Orders {
     ghost small: { Small inner.orders.items },
     ghost positive: { Positive inner.orders.items },
     ghost few: { vec_len inner.orders ≤ 256 },
-    ghost room: { 256 ≤ vec_capacity inner.orders },
+    ghost room: { vec_capacity inner.orders ≡ 256 },
 }
 
 fn own(order: &Order, id: OrderId) -> bool
@@ -63,11 +63,7 @@ impl Orders {
     pub(crate) fn copy_from(&mut self, from: &Orders)
         ensures { held self.new ≡ held from.now }
     {
-        self.inner.orders.clear();
-        self.inner
-            .orders
-            .extend_from_slice(from.as_slice())
-            .unwrap();
+        self.inner.copy_from(from.as_slice());
     }
 
     // Where the participant's order of that number stands, quotes apart.

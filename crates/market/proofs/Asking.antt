@@ -1,22 +1,21 @@
 -- A fill asks the rule within its domain, so its shares keep the laws.
-use Rattle.std.proofs.Common.{◌≡◌, ℕ, ◌-◌, ◌≤◌, Bool, true, cond, List, length, get_or, refl, arith}
+use Rattle.std.proofs.Common.{◌≡◌, ℕ, ◌-◌, ◌≤◌, Bool, true, cond, List, length, refl, arith}
 use Rattle.std.specs.List.{All, Any}
-use Rattle.std.proofs.lemmas.List.Elements.{All-get_or, All-map, All-filter}
+use Rattle.std.proofs.lemmas.List.Elements.{All-map, All-filter}
 use Rattle.std.proofs.lemmas.List.Sums.{length-filter, get_or-le-sum_by, sum_by-le}
-use Rattle.std.proofs.lemmas.List.{length-map, get_or_past}
+use Rattle.std.proofs.lemmas.List.{length-map}
 use Rattle.std.proofs.lemmas.List.Recursion.{is_sum_by}
 use Rattle.std.proofs.lemmas.Int.{ints}
-use Rattle.rules.specs.Domain.{total, Domain, Laws}
+use Rattle.rules.specs.Domain.{total, Below, Domain, Laws}
 use Rattle.market.specs.declared.book_id.BookId.{BookId}
 use Rattle.market.specs.declared.order.Order.{Order}
 use Rattle.market.specs.declared.price.Price.{Price}
 use Rattle.market.specs.declared.side.Side.{Side}
 use Rattle.market.specs.Levels.{in_level, level, quantities, Best, after_fill}
-use Rattle.market.specs.Lists.{Below}
 use Rattle.market.specs.Matching.{facing, given, divided}
 use Rattle.market.specs.Orders.{lot_book, stands, quantity_of}
 use Rattle.market.specs.Prices.{opposite}
-use Rattle.market.proofs.Fills.{below_from, all_after_fill, length-kept_le, length-after_fill}
+use Rattle.market.proofs.Fills.{all_after_fill, length-kept_le, length-after_fill}
 use Rattle.market.proofs.Sizes.{lot_size-sized, Lasting}
 
 -- a book that the rules are made for: at most 256 orders of at most 10,000 each
@@ -43,9 +42,6 @@ level_some b s p os h =
     let one = rw (h.3, in_level_at b s p h.1 h.4.0 h.4.1) at (get_or-le-sum_by (λ o. cond (in_level b s p o) 1 0) os h.0 h.1 h.2) in
     omega (arith, one, length-filter (in_level b s p) os)
 
-quantity_small : (os : List Order) → All (λ o. quantity_of o ≤ 10000) os → (k : ℕ) → get_or (quantities os) k 0 ≤ 10000
-quantity_small os a k = grind (arith, get_or_past (quantities os) k 0, All-get_or (λ q. q ≤ 10000) (quantities os) k 0, All-map (λ q. q ≤ 10000) quantity_of os a)
-
 pub asked : (o : Order) (p : Price) (os : List Order) (q : ℕ) → Bounded os → Best (lot_book o.lot) o.side os p →
     Domain (quantities (facing o p os)) (given o p os q)
 asked o p os q b best =
@@ -56,7 +52,7 @@ asked o p os q b best =
     record {
       some = omega (arith, level_some (lot_book o.lot) (opposite o.side) p os best.there);
       few = omega (arith, b.few);
-      small = quantity_small (facing o p os) small;
+      small = All-map (λ q. q ≤ 10000) quantity_of (facing o p os) small;
       bounded = omega (arith, b.few, is_sum_by (λ xs. total (quantities xs)) quantity_of refl (λ _ _. refl) (facing o p os), sum_by-le quantity_of 10000 (facing o p os) small);
     }
 
@@ -64,8 +60,7 @@ module _ (shares : List ℕ → ℕ → List ℕ) (laws : Laws shares) where
   pub shares_below : (o : Order) (p : Price) (os : List Order) (q : ℕ) → Bounded os → Best (lot_book o.lot) o.side os p →
       Below (divided shares o p os q) (quantities (facing o p os))
   shares_below o p os q b best =
-      let d = asked o p os q b best in
-      below_from (divided shares o p os q) (quantities (facing o p os)) (laws.count _ _ d) (laws.within _ _ d)
+      laws.within _ _ (asked o p os q b best)
 
   pub shares_total : (o : Order) (p : Price) (os : List Order) (q : ℕ) → Bounded os → Best (lot_book o.lot) o.side os p →
       total (divided shares o p os q) ≡ given o p os q

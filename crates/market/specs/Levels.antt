@@ -5,7 +5,6 @@ use Rattle.market.specs.declared.book_id.BookId.{BookId}
 use Rattle.market.specs.declared.order.Order.{Order}
 use Rattle.market.specs.declared.price.Price.{Price}
 use Rattle.market.specs.declared.side.Side.{Side}
-use Rattle.market.specs.Lists.{first, rest}
 use Rattle.market.specs.Orders.{stands, quantity_of, less}
 use Rattle.market.specs.Prices.{opposite, good, same_price}
 
@@ -33,7 +32,8 @@ NoneWithin b s limit os = All (λ o. stands b (opposite s) o ≡ true → good s
 -- each order that passes the test less its share, one for each in book order; all others as found
 abbrev pub reduced : (Order → Bool) → List Order → List ℕ → List Order
 reduced test [] ks = []
-reduced test (o ∷ os) ks = cond (test o) (less o (first ks) ∷ reduced test os (rest ks)) (o ∷ reduced test os ks)
+reduced test (o ∷ os) [] = o ∷ os
+reduced test (o ∷ os) (k ∷ ks) = cond (test o) (less o k ∷ reduced test os ks) (o ∷ reduced test os (k ∷ ks))
 
 -- an order rests while it has something open
 abbrev pub still_open : Order → Bool

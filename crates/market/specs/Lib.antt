@@ -1,4 +1,3 @@
-pub mod Lists
 pub mod Prices
 pub mod Orders
 pub mod Rows

@@ -6,7 +6,6 @@ use Rattle.market.specs.declared.row.RowKind.{RowKind}
 use Rattle.market.specs.declared.row.RowKind.TheVariants.{Blank, Trade, Leg, Combination, Cancellation}
 use Rattle.market.specs.declared.side.Side.{Side}
 use Rattle.market.specs.declared.side.Side.TheVariants.{Buy, Sell}
-use Rattle.market.specs.Lists.{first, rest}
 use Rattle.market.specs.Orders.{quantity_of, lot_book, book_number}
 use Rattle.market.specs.Prices.{opposite}
 
@@ -55,7 +54,8 @@ some_row k row = cond (k == 0) [] (row ∷ [])
 -- the rows of one fill: the shares of a level's orders, one for each, in book order
 abbrev pub fill_rows : ℕ → ℕ → List Order → List ℕ → List Row
 fill_rows fill n [] ks = []
-fill_rows fill n (o ∷ os) ks = some_row (first ks) (trade_row fill n o (first ks)) ++ fill_rows fill n os (rest ks)
+fill_rows fill n (o ∷ os) [] = []
+fill_rows fill n (o ∷ os) (k ∷ ks) = some_row k (trade_row fill n o k) ++ fill_rows fill n os ks
 
 -- what an order has open is cancelled: its number stands on its own side
 abbrev pub cancel_row : Order → Row

@@ -1,13 +1,13 @@
 -- The two rules on lists of any length.
-use Rattle.std.specs.Prelude.{◌≡◌, ℕ, ◌≤◌, min, List, length, slice_index}
-use Rattle.rules.specs.Domain.{total}
+use Rattle.std.specs.Prelude.{◌≡◌, ℕ, min, List, length}
+use Rattle.rules.specs.Domain.{total, Below}
 use Rattle.rules.specs.PriceTime.{price_time}
 use Rattle.rules.specs.ProRata.{pro_rata}
 
 -- one share for each quantity, none above it, and all together the smaller of what is to give and of what there is
 pub record FairDivision (qs : List ℕ) (give : ℕ) (shares : List ℕ) : Type 0 where
   pub count : length shares ≡ length qs
-  pub within : (k : ℕ) → slice_index shares k ≤ slice_index qs k
+  pub within : Below shares qs
   pub sum : total shares ≡ min give (total qs)
 
 -- both rules divide so, whatever the quantities and however many

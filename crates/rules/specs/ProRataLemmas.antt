@@ -1,9 +1,9 @@
 -- What holds of `pro_rata` at any length.
-use Rattle.std.specs.Prelude.{◌≡◌, ℕ, zero, suc, ◌+◌, ◌-◌, ◌*◌, ◌/◌, ◌<◌, ◌≤◌, min, List, [], ◌∷◌, map, length, nat_lt, slice_index, refl}
+use Rattle.std.specs.Prelude.{◌≡◌, ℕ, suc, ◌+◌, ◌-◌, ◌*◌, ◌/◌, ◌<◌, ◌≤◌, min, List, [], ◌∷◌, map, length, nat_lt, refl}
 use Rattle.std.proofs.Common.{ap, ⊎_elim, add-mul, mul-add, mul_comm, mul-le-mul_left, arith}
 use Rattle.std.proofs.Math.Nat.{lt-mul-div-succ, mul-div-le, div-le_of_le-mul, le_of_mul-le-mul_left}
 use Rattle.std.proofs.lemmas.Bool.{cases_lt, cond_both, ltb-true, ltb-false}
-use Rattle.rules.specs.Domain.{total}
+use Rattle.rules.specs.Domain.{total, Below}
 use Rattle.rules.specs.ProRata.{parts, one_more, one_each, pro_rata}
 
 -- `one_each` where a function of the quantity gives its part
@@ -12,10 +12,9 @@ module _ (f : ℕ → ℕ) where
   one_each_count [] left = refl
   one_each_count (q ∷ qs) left = ap suc (one_each_count qs (left - one_more q (f q) left))
 
-  pub one_each_within : ((q : ℕ) → f q ≤ q) → (qs : List ℕ) (left k : ℕ) → slice_index (one_each qs (map f qs) left) k ≤ slice_index qs k
-  one_each_within le [] left k = omega arith
-  one_each_within le (q ∷ qs) left zero = omega (arith, le q)
-  one_each_within le (q ∷ qs) left (suc k) = one_each_within le qs (left - one_more q (f q) left) k
+  pub one_each_within : ((q : ℕ) → f q ≤ q) → (qs : List ℕ) (left : ℕ) → Below (one_each qs (map f qs) left) qs
+  one_each_within le [] left = tt
+  one_each_within le (q ∷ qs) left = (omega (arith, le q), one_each_within le qs (left - one_more q (f q) left))
 
   -- a part, and one more where it falls short
   abbrev pub raised : ℕ → ℕ
@@ -76,11 +75,15 @@ pro_rata_count qs give =
     (λ _. one_each_count (λ q. q * give / total qs) qs _)
     (λ _. refl)
 
-pub pro_rata_within : (qs : List ℕ) (give k : ℕ) → slice_index (pro_rata qs give) k ≤ slice_index qs k
-pro_rata_within qs give k =
-    cond_both (nat_lt give (total qs)) _ qs (λ xs. slice_index xs k ≤ slice_index qs k)
-    (λ e. one_each_within (λ q. q * give / total qs) (part_le give (total qs) (ltb-true give (total qs) e)) qs _ k)
-    (λ _. omega arith)
+below_itself : (qs : List ℕ) → Below qs qs
+below_itself [] = tt
+below_itself (q ∷ qs) = (omega arith, below_itself qs)
+
+pub pro_rata_within : (qs : List ℕ) (give : ℕ) → Below (pro_rata qs give) qs
+pro_rata_within qs give =
+    cond_both (nat_lt give (total qs)) _ qs (λ xs. Below xs qs)
+    (λ e. one_each_within (λ q. q * give / total qs) (part_le give (total qs) (ltb-true give (total qs) e)) qs _)
+    (λ _. below_itself qs)
 
 pub pro_rata_sum : (qs : List ℕ) (give : ℕ) → total (pro_rata qs give) ≡ min give (total qs)
 pro_rata_sum qs give =
