@@ -1,9 +1,10 @@
-// A session served from memory, which is read three bytes at a time.
+// Sessions served from memory, which is read three bytes at a time.
 ghost use Rattle.std.specs.Prelude.{◌≡◌, ◌≤◌, take, vec_len};
 ghost use Rattle.console.specs.Wires.{taken, given};
 
 use console::serving::serve_wire;
 use console::wire::Wire;
+use std::alloc::Global;
 use std::test::Fail;
 
 // How many bytes are read at once.
@@ -36,19 +37,36 @@ impl Wire for Memory {
     }
 }
 
-#[test]
-fn session_in_memory(rt: HostRuntime) -> Result<(), Fail> {
-    let mut input: Vec<u8> = Vec::new(rt.alloc());
-    input.extend_from_slice(b"F 1 10 20\nP O\nE 1 1 S 5 12 D\nE 2 1 B 3 15 I\n\nC 1 1\nP X")?;
+// What a session over this input writes.
+fn served(heap: Global, bytes: &[u8]) -> Result<Vec<u8>, Fail> {
+    let mut input = Vec::new(heap);
+    input.extend_from_slice(bytes)?;
     let mut wire = Memory {
         input,
         at: 0,
-        output: Vec::new(rt.alloc()),
+        output: Vec::new(heap),
     };
-    serve_wire(rt.alloc(), &mut wire)?;
-    assert_eq!(rt;
-        wire.output.as_slice(),
-        b"ok 1 0\nok 0 0\nok 1 0\nok 2 3\nT 1 1 3 12 2 1\nno 2 1 0\nok 1 2\nX 0 1 2 0 0 1\n".as_slice()
-    );
+    serve_wire(heap, &mut wire)?;
+    let Memory { output, .. } = wire;
+    Ok(output)
+}
+
+#[test]
+fn sessions_in_memory(rt: HostRuntime) -> Result<(), Fail> {
+    let cases: [(&[u8], &[u8]); 7] = [
+        (
+            b"F 1 10 20\nP O\nE 1 1 S 5 12 D\nE 2 1 B 3 15 I\n\nC 1 1\nP X",
+            b"ok 1 0\nok 0 0\nok 1 0\nok 2 3\nT 1 1 3 12 2 1\nno 2 1 0\nok 1 2\nX 0 1 2 0 0 1\n",
+        ),
+        (b"", b""),
+        (b"F 1 10 20", b""),
+        (b"F 1 1O 2o\nF 1 10 20\nP O\n", b"no 1 1 8\n"),
+        (b"\nF 1 10 20\nP O\n", b"no 2 1 0\n"),
+        (b"O 1 0 20\nP O\n", b"no 3 2 2\n"),
+        (b"O 1 10 1000000\nP O\n", b"no 3 2 3\n"),
+    ];
+    for (input, output) in cases.iter() {
+        assert_eq!(rt; served(rt.alloc(), input)?.as_slice(), *output);
+    }
     Ok(())
 }

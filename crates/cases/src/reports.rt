@@ -5,9 +5,15 @@ use market::row::{Row, RowKind};
 use rules::price_time::PriceTime;
 use std::test::Fail;
 
-// What a call answers: its two numbers, or the refusal's number.
-fn told(answer: Result<(u32, u32), Refusal>) -> Result<(u32, u32), u32> {
-    answer.map_err(|refusal| RefusalCode::from(refusal).number)
+// The refusal of a call that has more rows than the report, by its number, layer and place.
+const TOO_FEW_ROWS: Result<(u32, u32), (u32, u32, u32)> = Err((15, 3, 0));
+
+// What a call answers: its two numbers, or the refusal's number, layer and place.
+fn told(answer: Result<(u32, u32), Refusal>) -> Result<(u32, u32), (u32, u32, u32)> {
+    answer.map_err(|refusal| {
+        let code = RefusalCode::from(refusal);
+        (code.number, code.layer.into(), code.place)
+    })
 }
 
 // A venue in Continuous with a sell of two contracts at 5 and one at 6.
@@ -27,9 +33,12 @@ fn opened(rt: &HostRuntime) -> Result<Gateway<PriceTime>, Fail> {
 fn no_row(rt: HostRuntime) -> Result<(), Fail> {
     let mut gateway = opened(&rt)?;
     let mut report = [Row::blank(); 0];
-    assert_eq!(rt; told(gateway.call(b"E 9 1 B 1 5 D", &mut report)), Err(15));
-    assert_eq!(rt; told(gateway.call(b"C 7 1", &mut report)), Err(15));
-    assert_eq!(rt; told(gateway.call(b"P X", &mut report)), Err(15));
+    assert_eq!(rt;
+        told(gateway.call(b"E 9 1 B 1 5 D", &mut report)),
+        TOO_FEW_ROWS
+    );
+    assert_eq!(rt; told(gateway.call(b"C 7 1", &mut report)), TOO_FEW_ROWS);
+    assert_eq!(rt; told(gateway.call(b"P X", &mut report)), TOO_FEW_ROWS);
     assert_eq!(rt;
         told(gateway.call(b"E 9 1 B 1 4 D", &mut report)),
         Ok((3, 0))
@@ -41,9 +50,16 @@ fn no_row(rt: HostRuntime) -> Result<(), Fail> {
 fn one_row(rt: HostRuntime) -> Result<(), Fail> {
     let mut gateway = opened(&rt)?;
     let mut report = [Row::blank(); 1];
-    assert_eq!(rt; told(gateway.call(b"E 9 1 B 3 6 D", &mut report)), Err(15));
+    assert_eq!(rt;
+        told(gateway.call(b"E 9 1 B 3 6 D", &mut report)),
+        TOO_FEW_ROWS
+    );
     assert_eq!(rt; report[0].kind, RowKind::Blank);
-    assert_eq!(rt; told(gateway.call(b"E 9 1 B 3 5 I", &mut report)), Err(15));
+    assert_eq!(rt; report[0].seller, 0);
+    assert_eq!(rt;
+        told(gateway.call(b"E 9 1 B 3 5 I", &mut report)),
+        TOO_FEW_ROWS
+    );
     assert_eq!(rt;
         told(gateway.call(b"E 9 1 B 2 5 I", &mut report)),
         Ok((3, 2))
@@ -54,5 +70,20 @@ fn one_row(rt: HostRuntime) -> Result<(), Fail> {
     assert_eq!(rt; report[0].seller, 1);
     assert_eq!(rt; told(gateway.call(b"C 8 2", &mut report)), Ok((2, 1)));
     assert_eq!(rt; report[0].kind, RowKind::Cancellation);
+    Ok(())
+}
+
+#[test]
+fn killed_in_one_row(rt: HostRuntime) -> Result<(), Fail> {
+    let mut gateway = opened(&rt)?;
+    let mut report = [Row::blank(); 1];
+    // The two fills that are tried would take two rows, and leave none.
+    assert_eq!(rt;
+        told(gateway.call(b"E 9 1 B 9 6 F", &mut report)),
+        Ok((3, 0))
+    );
+    assert_eq!(rt; report[0].kind, RowKind::Cancellation);
+    assert_eq!(rt; report[0].quantity, 9);
+    assert_eq!(rt; report[0].buyer, 3);
     Ok(())
 }
