@@ -24,17 +24,17 @@ use std::alloc::Global;
 fn open<R: AllocationRule>(
     heap: Global,
     rule: R,
-    request: &BuildLine,
+    request: BuildLine,
 ) -> Result<Opening<R>, BuildError>
 where
     R: Drop,
-    ensures { OpensAs rule request.now result }
+    ensures { OpensAs rule request result }
 {
-    let bands = request.bands.as_slice();
-    let venue = Venue::build(heap, rule, request.product, bands)?;
+    let BuildLine { product, bands } = request;
     let built = Acceptance::Built {
         instruments: bands.len() as u32,
     };
+    let venue = Venue::build(heap, rule, product, bands)?;
     Ok(Opening {
         gateway: Gateway { venue },
         answer: built.into(),
@@ -51,7 +51,7 @@ impl<R: AllocationRule> Gateway<R> {
         ensures bands { JudgesBands line.now }
     {
         let request = read_build(line)?;
-        open(heap, rule, &request)
+        open(heap, rule, request)
     }
 
     // One line of a member, with a report of any length: the answer, all rows and the venue after it are those that the market's rules give, which allow no others, and the law over sessions goes on to hold. The line is refused with number 1 or 2 exactly where its check code, which `line_check` gives, is not 0.
