@@ -1,5 +1,5 @@
 -- What a venue stands for.
-use Rattle.std.specs.Prelude.{◌≡◌, List, Some, None, Ok, Err, vec_items, Option, Result}
+use Rattle.std.specs.Prelude.{◌≡◌, List, Some, None, Ok, Err, Option, Result}
 use Rattle.market.specs.declared.product.Band.{Band}
 use Rattle.market.specs.declared.product.Product.{Product}
 use Rattle.market.specs.declared.refusal.Refusal.{Refusal}
@@ -12,7 +12,7 @@ use Rattle.gate.specs.declared.venue.Venue.{Venue}
 
 -- a venue by its product, phase, bands and book
 abbrev pub view : {R : Type 0} → Venue R → View
-view v = record { product = v.product; phase = v.trading.phase; bands = vec_items v.trading.bands; book = book_state v.book }
+view v = record { product = v.product; phase = v.trading.phase; bands = v.trading.bands.items; book = book_state v.book }
 
 -- a venue is built with these bands and this rule, or refused since a band is broken, or there is no memory though no band is broken
 abbrev pub BuiltWith : {R : Type 0} → Product → List Band → R → Result (Venue R) BuildError → Type 0

@@ -7,6 +7,7 @@ ghost use Rattle.market.specs.declared.refusal.Refusal.TheVariants.{Participant}
 ghost use Rattle.market.specs.Venues.{between, unless, within_band};
 ghost use Rattle.gate.specs.Conditions.{Judges};
 
+use crate::venue::MOST_INSTRUMENTS;
 use market::price::Price;
 use market::product::Band;
 use market::refusal::Refusal;
@@ -54,7 +55,7 @@ fn first_broken<F: Fn(&Band) -> bool>(bands: &[Band], place: u32, broken: F) -> 
 
 // Whether a build line's bands are sound, and if not, why.
 pub(crate) fn judge(bands: &[Band]) -> Result<(), Refusal>
-    requires { length bands.now ≤ 64 }
+    requires { length bands.now ≤ MOST_INSTRUMENTS }
     ensures { Judges (build_fault bands.now) result }
 {
     let highs = 2 + bands.len() as u32;

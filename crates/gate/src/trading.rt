@@ -3,13 +3,15 @@ ghost use Rattle.std.specs.Prelude.{◌≡◌};
 ghost use Rattle.market.specs.Venues.{trading, serving, band_of};
 ghost use Rattle.gate.specs.Conditions.{turned};
 
+use crate::venue::MOST_INSTRUMENTS;
+use arrayvec::ArrayVec;
 use market::phase::{Event, Phase, Withdrawal};
 use market::product::Band;
 
 #[derive(Drop)]
 pub(crate) struct Trading {
     pub phase: Phase,
-    pub bands: Vec<Band>,
+    pub bands: ArrayVec<Band, MOST_INSTRUMENTS>,
 }
 
 impl Trading {

@@ -64,5 +64,8 @@ module _ {X : Type 0} (form : List (List ℕ) → Form X) (line : List ℕ) wher
       (λ e. bad_byte (clean line) (at_fault line (ltb-true _ _ e)))
       (λ e. from_place (misfit (form (fields_of line)).kinds (fields_of line) 0) (no_fault line (ltb-false _ _ e)) (placed (form (fields_of line)).kinds (fields_of line) 0))
 
+  pub reads : Read form line (read_line form line)
+  reads = record { value = refl; judged = judged; parted = parted line }
+
   pub as_read : (r : Result X Refusal) → r ≡ read_line form line → Read form line r
-  as_read r e = record { value = e; judged = subst (Judged form line) (sym e) judged; parted = parted line }
+  as_read r e = subst (Read form line) (sym e) reads

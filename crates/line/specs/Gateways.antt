@@ -5,7 +5,7 @@ use Rattle.market.specs.declared.product.Band.{Band}
 use Rattle.market.specs.declared.refusal.Refusal.{Refusal}
 use Rattle.market.specs.declared.row.Row.{Row}
 use Rattle.market.specs.Acceptances.{acceptance_numbers}
-use Rattle.market.specs.Bands.{build_fault}
+use Rattle.market.specs.Bands.{build_fault, BandsJudged}
 use Rattle.market.specs.Refusals.{refusal_code}
 use Rattle.market.specs.Sessions.{Turn, Reached, Sound}
 use Rattle.market.specs.Venues.{View, fresh}
@@ -26,6 +26,10 @@ bands_given b = b.bands.items
 abbrev pub build_refusal : Result BuildLine Refusal → Option Refusal
 build_refusal (Ok b) = build_fault (bands_given b)
 build_refusal (Err e) = Some e
+
+-- the verdict on the bands that a build line gives is what the rule says of them: which band is broken and how, or that all are sound
+abbrev pub JudgesBands : List ℕ → Type 0
+JudgesBands line = (b : BuildLine) → build_line line ≡ Ok b → BandsJudged (bands_given b) (build_fault (bands_given b))
 
 -- a venue is built as the fields of a build line say, under the rule that is given, or a band is broken, or there is no memory though no band is broken
 abbrev pub OpensAs : {R : Type 0} → R → BuildLine → Result (Opening R) BuildError → Type 0

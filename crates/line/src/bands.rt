@@ -5,6 +5,7 @@ ghost use Rattle.line.specs.Cursors.{read_rest};
 
 use crate::cursor::Cursor;
 use arrayvec::ArrayVec;
+use gate::venue::MOST_INSTRUMENTS;
 use market::product::{Band, Product};
 use market::refusal::Refusal;
 
@@ -12,14 +13,14 @@ use market::refusal::Refusal;
 #[derive(Drop)]
 pub(crate) struct BuildLine {
     pub(crate) product: Product,
-    pub(crate) bands: ArrayVec<Band, 64>,
+    pub(crate) bands: ArrayVec<Band, MOST_INSTRUMENTS>,
 }
 
 pub(crate) fn read_build_fields(fields: &mut Cursor<'_>) -> Result<BuildLine, Refusal>
     ensures { result ≡ read_rest build_form fields.old }
 {
     let product = fields.named()?;
-    let count = fields.number_within(1, 64)?;
+    let count = fields.number_within(1, MOST_INSTRUMENTS as u32)?;
     let bands = fields.elements(count)?;
     fields.end()?;
     Ok(BuildLine { product, bands })

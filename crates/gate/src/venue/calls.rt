@@ -1,5 +1,5 @@
 // What may be done with a venue.
-ghost use Rattle.std.specs.Prelude.{◌≡◌, ◌≤◌, length};
+ghost use Rattle.std.specs.Prelude.{◌≡◌, length};
 ghost use Rattle.market.specs.declared.call.Call.TheVariants.{Enter, Cancel, Switch};
 ghost use Rattle.market.specs.Bands.{BandsJudged};
 ghost use Rattle.market.specs.Endings.{Follows};
@@ -7,10 +7,11 @@ ghost use Rattle.market.specs.Venues.{Does, fault};
 ghost use Rattle.gate.specs.Conditions.{Judges};
 ghost use Rattle.gate.specs.Views.{view, BuiltWith, refusal_of};
 
-use super::Venue;
+use super::{MOST_INSTRUMENTS, Venue};
 use crate::build_error::BuildError;
 use crate::fault::{check_participant, judge, unless, within_band};
 use crate::trading::Trading;
+use arrayvec::ArrayVec;
 use book::book::Book;
 use market::arrival::Arrival;
 use market::call::Call;
@@ -33,18 +34,17 @@ impl<R: AllocationRule> Venue<R> {
         heap: Global,
         rule: R,
         product: Product,
-        bands: &[Band],
+        bands: ArrayVec<Band, MOST_INSTRUMENTS>,
     ) -> Result<Venue<R>, BuildError>
     where
         R: Drop,
-        requires { length bands.now ≤ 64 }
-        ensures built { BuiltWith product bands.now rule result }
-        ensures bands { BandsJudged bands.now (refusal_of result) }
+        ensures built { BuiltWith product bands.items rule result }
+        ensures bands { BandsJudged bands.items (refusal_of result) }
     {
-        judge(bands)?;
+        judge(bands.as_slice())?;
         let trading = Trading {
             phase: Phase::PreOpen,
-            bands: Vec::from_slice(heap, bands)?,
+            bands,
         };
         let book = Book::new(heap)?;
         Ok(Venue {

@@ -4,8 +4,10 @@ ghost use Rattle.market.specs.Endings.{Follows};
 ghost use Rattle.market.specs.Unique.{RulesDetermine};
 ghost use Rattle.market.specs.Venues.{Takes};
 ghost use Rattle.gate.specs.Views.{view};
-ghost use Rattle.line.specs.Gateways.{OpensAs, Opens, by_line, GoesOn, turn_of};
-ghost use Rattle.line.specs.Verdicts.{line_call, check_code};
+ghost use Rattle.line.specs.BuildLines.{build_form};
+ghost use Rattle.line.specs.CallLines.{call_form};
+ghost use Rattle.line.specs.Gateways.{OpensAs, Opens, JudgesBands, by_line, GoesOn, turn_of};
+ghost use Rattle.line.specs.Verdicts.{line_call, build_line, check_code, Read};
 
 use super::{Gateway, Opening};
 use crate::bands::BuildLine;
@@ -22,17 +24,17 @@ use std::alloc::Global;
 fn open<R: AllocationRule>(
     heap: Global,
     rule: R,
-    request: &BuildLine,
+    request: BuildLine,
 ) -> Result<Opening<R>, BuildError>
 where
     R: Drop,
-    ensures { OpensAs rule request.now result }
+    ensures { OpensAs rule request result }
 {
-    let bands = request.bands.as_slice();
-    let venue = Venue::build(heap, rule, request.product, bands)?;
+    let BuildLine { product, bands } = request;
     let built = Acceptance::Built {
         instruments: bands.len() as u32,
     };
+    let venue = Venue::build(heap, rule, product, bands)?;
     Ok(Opening {
         gateway: Gateway { venue },
         answer: built.into(),
@@ -44,15 +46,18 @@ impl<R: AllocationRule> Gateway<R> {
     pub fn build(heap: Global, rule: R, line: &[u8]) -> Result<Opening<R>, BuildError>
     where
         R: Drop,
-        ensures { Opens R.AllocationRule.shares rule line.now result }
+        ensures opens { Opens R.AllocationRule.shares rule line.now result }
+        ensures read { Read build_form line.now (build_line line.now) }
+        ensures bands { JudgesBands line.now }
     {
         let request = read_build(line)?;
-        open(heap, rule, &request)
+        open(heap, rule, request)
     }
 
     // One line of a member, with a report of any length: the answer, all rows and the venue after it are those that the market's rules give, which allow no others, and the law over sessions goes on to hold. The line is refused with number 1 or 2 exactly where its check code, which `line_check` gives, is not 0.
     pub fn call(&mut self, line: &[u8], report: &mut [Row]) -> Result<(u32, u32), Refusal>
         ensures follows { Follows (Takes (R.AllocationRule.shares self.old.venue.rule) (view self.old.venue) (line_call line.now)) (view self.old.venue) (length report.old) result report.new (view self.new.venue) }
+        ensures read { Read call_form line.now (line_call line.now) }
         ensures alone { RulesDetermine }
         ensures rule { self.new.venue.rule ≡ self.old.venue.rule }
         ensures checked { by_line result ≡ not (check_code (line_call line.now) == 0) }
