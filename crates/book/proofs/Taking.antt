@@ -2,10 +2,10 @@
 use Rattle.std.proofs.Common.{◌≡◌, ℕ, ◌+◌, ◌<◌, Bool, true, false, cond, List, [], ◌∷◌, ◌++◌, length, get_or, take, drop, set, refl, sym, ap, ◌∙◌, subst, arith}
 use Rattle.std.proofs.lemmas.List.{drop_more, take_more, take_more_set, drop-set-lt, length-set, append_assoc}
 use Rattle.std.proofs.lemmas.Bool.{cond-true, cond-false}
+use Rattle.rules.specs.Domain.{Below}
 use Rattle.market.specs.declared.order.Order.{Order}
 use Rattle.market.specs.declared.row.Row.{Row}
 use Rattle.market.specs.Levels.{quantities, reduced}
-use Rattle.rules.specs.Domain.{Below}
 use Rattle.market.specs.Matching.{facing}
 use Rattle.market.specs.Orders.{less, quantity_of}
 use Rattle.market.specs.Rows.{fill_rows, some_row, trade_row}

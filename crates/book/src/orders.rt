@@ -1,9 +1,9 @@
 // Resting orders within the bounds of a book.
 ghost use Rattle.std.specs.Prelude.{◌≡◌, ◌<◌, ◌≤◌, ◌++◌, [], ◌∷◌, not, map, filter, length, position, vec_len, vec_capacity, slice_index_or, IfOk};
 ghost use Rattle.std.specs.List.{remove};
+ghost use Rattle.rules.specs.Domain.{Below};
 ghost use Rattle.market.specs.BookCalls.{leaves};
 ghost use Rattle.market.specs.Levels.{quantities, after_fill};
-ghost use Rattle.rules.specs.Domain.{Below};
 ghost use Rattle.market.specs.Matching.{facing};
 ghost use Rattle.market.specs.Orders.{own, quantity_of};
 ghost use Rattle.market.specs.Rows.{cancel_row, fill_rows};

@@ -2,10 +2,10 @@
 ghost use Rattle.std.specs.Prelude.{◌≡◌, ◌<◌, ◌≤◌, length, vec_len, vec_capacity, filter, slice_index_or, slice_set};
 ghost use Rattle.std.specs.Borrow.{sem, follows};
 ghost use Rattle.std.specs.Vec.{with_item};
+ghost use Rattle.rules.specs.Domain.{Below};
 ghost use Rattle.market.specs.declared.order.Order.{Order as OrderT};
 ghost use Rattle.market.specs.contracts.order.Order.{the_row as order_row};
 ghost use Rattle.market.specs.Levels.{quantities, reduced, still_open};
-ghost use Rattle.rules.specs.Domain.{Below};
 ghost use Rattle.market.specs.Matching.{facing};
 ghost use Rattle.market.specs.Orders.{quantity_of, less};
 ghost use Rattle.market.specs.Rows.{fill_rows};
@@ -79,7 +79,7 @@ impl Resting {
         ensures capacity { vec_capacity self.new.orders ≡ vec_capacity self.old.orders }
     {
         self.orders.clear();
-        // One by one, since of `extend_from_slice` only a capacity that does not shrink is known, and no call may take memory.
+        // One by one: of `extend_from_slice` it is known only that the capacity does not shrink, and no call may take memory.
         for order in from {
             self.orders.push_reserved(*order);
         }

@@ -26,7 +26,7 @@ impl Scratch {
         requires { Domain self.old.quantities.items give }
         ensures { self.new.shares.items ≡ R.AllocationRule.shares rule.now self.old.quantities.items give }
     {
-        // As `Orders::copy_from`, but into a vector in place, which has a call of its own; no `clone`: it can fail just as this can, and moves all 256 places.
+        // Into a vector in place, whose room is its type; no `clone`: it can fail just as this can, and moves all 256 places.
         self.shares.clear();
         self.shares
             .try_extend_from_slice(self.quantities.as_slice())

@@ -1,4 +1,4 @@
-// Cases that no stored session can show: short reports, many build lines, a call cloned, and a session served from memory.
+// Cases that no stored session can show: short reports, many build lines, a call cloned, and sessions served from memory.
 #![tactic(auto)]
 
 #[cfg(test)]

@@ -7,7 +7,7 @@ abbrev pub total : List ℕ → ℕ
 total [] = 0
 total (q ∷ qs) = q + total qs
 
--- One number for each of the others, none above it.
+-- One number for each of the second list, none above it.
 abbrev pub Below : List ℕ → List ℕ → Type 0
 Below [] [] = Unit {0}
 Below [] (q ∷ qs) = ⊥
@@ -25,7 +25,7 @@ pub record Domain (qs : List ℕ) (give : ℕ) : Type 0 where
 pub record Laws (shares : List ℕ → ℕ → List ℕ) : Type 0 where
   -- There is one share for each quantity.
   pub count : (qs : List ℕ) (give : ℕ) → Domain qs give → length (shares qs give) ≡ length qs
-  -- No share is above its quantity.
+  -- No share is above its quantity (`Below` also says again that there is one for each).
   pub within : (qs : List ℕ) (give : ℕ) → Domain qs give → Below (shares qs give) qs
   -- The shares come to all that is to give, or to all the quantities where those are less.
   pub sum : (qs : List ℕ) (give : ℕ) → Domain qs give → total (shares qs give) ≡ min give (total qs)

@@ -1,7 +1,6 @@
 use Rattle.std.proofs.Common.{◌≡◌, ℕ, List, vec_items, sym, ◌∙◌, subst}
-use Rattle.rules.specs.Domain.{Domain}
+use Rattle.rules.specs.Domain.{Below, Domain}
 use Rattle.market.specs.Levels.{quantities}
-use Rattle.rules.specs.Domain.{Below}
 use Rattle.market.specs.Matching.{facing, divided}
 use Rattle.market.proofs.Asking.{asked, shares_below}
 use Rattle.book.proofs.Bounds.{within_bounds, level_read}
