@@ -61,6 +61,20 @@ fn lines_refused(rt: HostRuntime) -> Result<(), Fail> {
 }
 
 #[test]
+fn all_instruments(rt: HostRuntime) -> Result<(), Fail> {
+    let mut line = Vec::new(rt.alloc());
+    line.extend_from_slice(b"F 64")?;
+    for _ in 0..128 {
+        line.extend_from_slice(b" 999999")?;
+    }
+    assert_eq!(rt; line.len(), 900);
+    assert_eq!(rt; built(rt.alloc(), line.as_slice())?, Ok(64));
+    line.extend_from_slice(b" 999999")?;
+    assert_eq!(rt; built(rt.alloc(), line.as_slice())?, Err((2, 1, 130)));
+    Ok(())
+}
+
+#[test]
 fn bands_judged(rt: HostRuntime) -> Result<(), Fail> {
     let cases: [(&[u8], Answer); 16] = [
         (b"F 1 1 1", Ok(1)),
