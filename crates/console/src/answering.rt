@@ -1,6 +1,6 @@
 // A line given to a venue, and what it answers as text.
 ghost use Rattle.std.specs.Prelude.{◌≡◌, length, IfOk, OnOk};
-ghost use Rattle.gate.specs.Views.{view};
+ghost use Rattle.line.specs.Gateways.{gateway_view, gateway_rule};
 ghost use Rattle.console.specs.Answering.{Answered, BuildAnswered};
 
 use crate::text::{write_answer, write_report};
@@ -41,8 +41,8 @@ pub(crate) fn answer_line<R: AllocationRule>(
     report: &mut [Row],
     out: &mut Vec<u8>,
 ) -> Result<(), AllocError>
-    ensures answered { OnOk result (Answered (R.AllocationRule.shares gateway.old.venue.rule) (view gateway.old.venue) line.now (length report.old) out.old.items out.new.items (view gateway.new.venue)) }
-    ensures rule { gateway.new.venue.rule ≡ gateway.old.venue.rule }
+    ensures answered { OnOk result (Answered (R.AllocationRule.shares (gateway_rule gateway.old)) (gateway_view gateway.old) line.now (length report.old) out.old.items out.new.items (gateway_view gateway.new)) }
+    ensures rule { gateway_rule gateway.new ≡ gateway_rule gateway.old }
 {
     let answer = gateway.call(line, report);
     write_answer(out, answer)?;

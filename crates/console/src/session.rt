@@ -1,6 +1,6 @@
 // A session: its input, cut into lines, its answers, and the wire for both.
 ghost use Rattle.std.specs.Prelude.{◌≡◌, OnErr, OnOk};
-ghost use Rattle.gate.specs.Views.{view};
+ghost use Rattle.line.specs.Gateways.{gateway_view, gateway_rule};
 ghost use Rattle.console.specs.Sessions.{rule_for, Served, BrokenOff};
 ghost use Rattle.console.specs.Serving.{FromStart, FromFirst, FromAnswers, AllAnswered};
 
@@ -78,8 +78,8 @@ impl<W: Wire> Session<'_, W> {
         mut gateway: Gateway<R>,
     ) -> anyhow::Result<()>
         ensures same { self.new.wire.wire.ghost_name ≡ self.old.wire.wire.ghost_name }
-        ensures answered { OnOk result (FromAnswers W.Wire.log (R.AllocationRule.shares gateway.venue.rule) (view gateway.venue) self.old (λ rules used text. AllAnswered rules (R.AllocationRule.shares gateway.venue.rule) (view gateway.venue) W.Wire.log W.Wire.over self.new used text)) }
-        ensures failed { OnErr result (FromAnswers W.Wire.log (R.AllocationRule.shares gateway.venue.rule) (view gateway.venue) self.old (λ rules used text. BrokenOff rules (W.Wire.log self.new.wire.wire.now))) }
+        ensures answered { OnOk result (FromAnswers W.Wire.log (R.AllocationRule.shares (gateway_rule gateway)) (gateway_view gateway) self.old (λ rules used text. AllAnswered rules (R.AllocationRule.shares (gateway_rule gateway)) (gateway_view gateway) W.Wire.log W.Wire.over self.new used text)) }
+        ensures failed { OnErr result (FromAnswers W.Wire.log (R.AllocationRule.shares (gateway_rule gateway)) (gateway_view gateway) self.old (λ rules used text. BrokenOff rules (W.Wire.log self.new.wire.wire.now))) }
     {
         let mut report = vec![in self.heap; Row::blank(); ROWS]?;
         // Input has no known end, and each loop is proved to end: a count that no input reaches. This loop answers lines; that of the reader reads blocks until one is cut.

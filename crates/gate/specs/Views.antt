@@ -14,9 +14,13 @@ use Rattle.gate.specs.declared.venue.Venue.{Venue}
 abbrev pub view : {R : Type 0} → Venue R → View
 view v = record { product = v.product; phase = v.trading.phase; bands = v.trading.bands.items; book = book_state v.book }
 
+-- the rule by which a venue divides
+abbrev pub rule_of : {R : Type 0} → Venue R → R
+rule_of v = v.rule
+
 -- a venue is built with these bands and this rule, or refused since a band is broken, or there is no memory though no band is broken
 abbrev pub BuiltWith : {R : Type 0} → Product → List Band → R → Result (Venue R) BuildError → Type 0
-BuiltWith product bands rule (Ok v) = (build_fault bands ≡ None) × (view v ≡ fresh product bands) × (v.rule ≡ rule)
+BuiltWith product bands rule (Ok v) = (build_fault bands ≡ None) × (view v ≡ fresh product bands) × (rule_of v ≡ rule)
 BuiltWith product bands rule (Err (Refused e)) = build_fault bands ≡ Some e
 BuiltWith product bands rule (Err OutOfMemory) = build_fault bands ≡ None
 

@@ -11,10 +11,19 @@ use Rattle.market.specs.Sessions.{Turn, Reached, Sound}
 use Rattle.market.specs.Venues.{View, fresh}
 use Rattle.gate.specs.declared.build_error.BuildError.{BuildError}
 use Rattle.gate.specs.declared.build_error.BuildError.TheVariants.{Refused, OutOfMemory}
-use Rattle.gate.specs.Views.{view}
+use Rattle.gate.specs.Views.{view, rule_of}
 use Rattle.line.specs.declared.bands.BuildLine.{BuildLine}
+use Rattle.line.specs.declared.gateway.Gateway.{Gateway}
 use Rattle.line.specs.declared.gateway.Opening.{Opening}
 use Rattle.line.specs.Verdicts.{line_call, build_line}
+
+-- the venue that a gateway holds
+abbrev pub gateway_view : {R : Type 0} → Gateway R → View
+gateway_view g = view g.venue
+
+-- the rule by which it divides
+abbrev pub gateway_rule : {R : Type 0} → Gateway R → R
+gateway_rule g = rule_of g.venue
 
 -- ---- building
 
@@ -33,7 +42,7 @@ JudgesBands line = (b : BuildLine) → build_line line ≡ Ok b → BandsJudged 
 
 -- a venue is built as the fields of a build line say, under the rule that is given, or a band is broken, or there is no memory though no band is broken
 abbrev pub OpensAs : {R : Type 0} → R → BuildLine → Result (Opening R) BuildError → Type 0
-OpensAs rule b (Ok o) = (build_fault (bands_given b) ≡ None) × (view o.gateway.venue ≡ fresh b.product (bands_given b)) × (o.answer ≡ acceptance_numbers (Built (length (bands_given b)))) × (o.gateway.venue.rule ≡ rule)
+OpensAs rule b (Ok o) = (build_fault (bands_given b) ≡ None) × (gateway_view o.gateway ≡ fresh b.product (bands_given b)) × (o.answer ≡ acceptance_numbers (Built (length (bands_given b)))) × (gateway_rule o.gateway ≡ rule)
 OpensAs rule b (Err (Refused e)) = build_fault (bands_given b) ≡ Some e
 OpensAs rule b (Err OutOfMemory) = build_fault (bands_given b) ≡ None
 
@@ -48,7 +57,7 @@ pub record Opened (shares : List ℕ → ℕ → List ℕ) (line : List ℕ) (an
 
 -- a build line opens a venue under the rule that it is given, or is refused, or there is no memory though it is not refused
 abbrev pub Opens : {R : Type 0} → (R → List ℕ → ℕ → List ℕ) → R → List ℕ → Result (Opening R) BuildError → Type 0
-Opens shares rule line (Ok o) = (build_refusal (build_line line) ≡ None) × Opened (shares rule) line o.answer (view o.gateway.venue) × (o.gateway.venue.rule ≡ rule)
+Opens shares rule line (Ok o) = (build_refusal (build_line line) ≡ None) × Opened (shares rule) line o.answer (gateway_view o.gateway) × (gateway_rule o.gateway ≡ rule)
 Opens shares rule line (Err (Refused e)) = build_refusal (build_line line) ≡ Some e
 Opens shares rule line (Err OutOfMemory) = build_refusal (build_line line) ≡ None
 

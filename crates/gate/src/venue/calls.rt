@@ -5,7 +5,7 @@ ghost use Rattle.market.specs.Bands.{BandsJudged};
 ghost use Rattle.market.specs.Endings.{Follows};
 ghost use Rattle.market.specs.Venues.{Does, fault};
 ghost use Rattle.gate.specs.Conditions.{Judges};
-ghost use Rattle.gate.specs.Views.{view, BuiltWith, refusal_of};
+ghost use Rattle.gate.specs.Views.{view, rule_of, BuiltWith, refusal_of};
 
 use super::{MOST_INSTRUMENTS, Venue};
 use crate::build_error::BuildError;
@@ -73,8 +73,8 @@ impl<R: AllocationRule> Venue<R> {
     }
 
     fn enter(&mut self, arrival: Arrival, report: &mut [Row]) -> Result<(u32, u32), Refusal>
-        ensures follows { Follows (Does (R.AllocationRule.shares self.old.rule) (view self.old) (Enter arrival.participant arrival.instrument arrival.side arrival.quantity.0 arrival.price arrival.duration)) (view self.old) (length report.old) result report.new (view self.new) }
-        ensures rule { self.new.rule ≡ self.old.rule }
+        ensures follows { Follows (Does (R.AllocationRule.shares (rule_of self.old)) (view self.old) (Enter arrival.participant arrival.instrument arrival.side arrival.quantity.0 arrival.price arrival.duration)) (view self.old) (length report.old) result report.new (view self.new) }
+        ensures rule { rule_of self.new ≡ rule_of self.old }
     {
         if let Err(refusal) = self.may_enter(arrival) {
             return refuse(report, refusal);
@@ -92,8 +92,8 @@ impl<R: AllocationRule> Venue<R> {
     }
 
     fn cancel(&mut self, id: OrderId, report: &mut [Row]) -> Result<(u32, u32), Refusal>
-        ensures follows { Follows (Does (R.AllocationRule.shares self.old.rule) (view self.old) (Cancel id.participant id.number)) (view self.old) (length report.old) result report.new (view self.new) }
-        ensures rule { self.new.rule ≡ self.old.rule }
+        ensures follows { Follows (Does (R.AllocationRule.shares (rule_of self.old)) (view self.old) (Cancel id.participant id.number)) (view self.old) (length report.old) result report.new (view self.new) }
+        ensures rule { rule_of self.new ≡ rule_of self.old }
     {
         if let Err(refusal) = self.may_cancel(id) {
             return refuse(report, refusal);
@@ -102,8 +102,8 @@ impl<R: AllocationRule> Venue<R> {
     }
 
     fn switch(&mut self, event: Event, report: &mut [Row]) -> Result<(u32, u32), Refusal>
-        ensures follows { Follows (Does (R.AllocationRule.shares self.old.rule) (view self.old) (Switch event)) (view self.old) (length report.old) result report.new (view self.new) }
-        ensures rule { self.new.rule ≡ self.old.rule }
+        ensures follows { Follows (Does (R.AllocationRule.shares (rule_of self.old)) (view self.old) (Switch event)) (view self.old) (length report.old) result report.new (view self.new) }
+        ensures rule { rule_of self.new ≡ rule_of self.old }
     {
         let Some((phase, leaving)) = self.trading.turned(event) else {
             return refuse(report, Refusal::Phase);
@@ -115,8 +115,8 @@ impl<R: AllocationRule> Venue<R> {
 
     // One call of a member, with a report of any length.
     pub fn call(&mut self, call: Call, report: &mut [Row]) -> Result<(u32, u32), Refusal>
-        ensures follows { Follows (Does (R.AllocationRule.shares self.old.rule) (view self.old) call) (view self.old) (length report.old) result report.new (view self.new) }
-        ensures rule { self.new.rule ≡ self.old.rule }
+        ensures follows { Follows (Does (R.AllocationRule.shares (rule_of self.old)) (view self.old) call) (view self.old) (length report.old) result report.new (view self.new) }
+        ensures rule { rule_of self.new ≡ rule_of self.old }
     {
         match call {
             Call::Enter {

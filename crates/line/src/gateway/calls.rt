@@ -3,10 +3,9 @@ ghost use Rattle.std.specs.Prelude.{◌≡◌, not, length, ◌==◌};
 ghost use Rattle.market.specs.Endings.{Follows};
 ghost use Rattle.market.specs.Unique.{RulesDetermine};
 ghost use Rattle.market.specs.Venues.{Takes};
-ghost use Rattle.gate.specs.Views.{view};
 ghost use Rattle.line.specs.BuildLines.{build_form};
 ghost use Rattle.line.specs.CallLines.{call_form};
-ghost use Rattle.line.specs.Gateways.{OpensAs, Opens, JudgesBands, by_line, GoesOn, turn_of};
+ghost use Rattle.line.specs.Gateways.{gateway_view, gateway_rule, OpensAs, Opens, JudgesBands, by_line, GoesOn, turn_of};
 ghost use Rattle.line.specs.Verdicts.{line_call, build_line, check_code, Read};
 
 use super::{Gateway, Opening};
@@ -56,12 +55,12 @@ impl<R: AllocationRule> Gateway<R> {
 
     // One line of a member, with a report of any length: the answer, all rows and the venue after it are those that the market's rules give, which allow no others, and the law over sessions goes on to hold. The line is refused with number 1 or 2 exactly where its check code, which `line_check` gives, is not 0.
     pub fn call(&mut self, line: &[u8], report: &mut [Row]) -> Result<(u32, u32), Refusal>
-        ensures follows { Follows (Takes (R.AllocationRule.shares self.old.venue.rule) (view self.old.venue) (line_call line.now)) (view self.old.venue) (length report.old) result report.new (view self.new.venue) }
+        ensures follows { Follows (Takes (R.AllocationRule.shares (gateway_rule self.old)) (gateway_view self.old) (line_call line.now)) (gateway_view self.old) (length report.old) result report.new (gateway_view self.new) }
         ensures read { Read call_form line.now (line_call line.now) }
         ensures alone { RulesDetermine }
-        ensures rule { self.new.venue.rule ≡ self.old.venue.rule }
+        ensures rule { gateway_rule self.new ≡ gateway_rule self.old }
         ensures checked { by_line result ≡ not (check_code (line_call line.now) == 0) }
-        ensures session { GoesOn (R.AllocationRule.shares self.old.venue.rule) (view self.old.venue) (turn_of line.now (length report.old) result report.new) (view self.new.venue) }
+        ensures session { GoesOn (R.AllocationRule.shares (gateway_rule self.old)) (gateway_view self.old) (turn_of line.now (length report.old) result report.new) (gateway_view self.new) }
     {
         // A refusal also blanks the report, which `?` alone would not do.
         match read_call(line) {
