@@ -1,6 +1,6 @@
 // What a session reads its bytes from and writes its text to.
 ghost use Rattle.std.specs.Prelude.{◌≡◌, ◌<◌, ◌≤◌, ℕ, List, ◌∷◌, length, take, IfOk, OnErr, OnOk};
-ghost use Rattle.std.specs.Io.KnownBytes.{Appends, IsAtEnd};
+ghost use Rattle.std.specs.Io.KnownBytes.{Appends, IsAtEnd, ReadConsumes};
 ghost use Rattle.console.specs.Wires.{Event, Took, Gave, PartGiven, Written, given};
 
 use anyhow::anyhow;
@@ -33,19 +33,28 @@ pub struct Streams<R, W> {
     pub output: W,
 }
 
+// Each call says more than its trait asks: what it did to the bytes of its own stream, and that it left the other alone.
 impl<R: Read, W: Write> Wire for Streams<R, W> {
-    // The writer is known to hold, and what it holds ends with, all that was given.
+    // What the writer holds is known, and ends with all that was given.
     ghost log = { λ s events. Written (W.contents s.output) (given events) };
 
     // Nothing is known to be left of the input.
     ghost over = { λ s. IsAtEnd (R.remaining s.input) };
 
-    fn read(&mut self, block: &mut [u8]) -> anyhow::Result<usize> {
+    fn read(&mut self, block: &mut [u8]) -> anyhow::Result<usize>
+        ensures within { IfOk result (λ n. n ≤ length block.new) }
+        ensures consumed { ReadConsumes (R.remaining self.old.input) (R.remaining self.new.input) result block.new }
+        ensures output { self.new.output ≡ self.old.output }
+    {
         let n = self.input.read(block)?;
         Ok(n)
     }
 
-    fn write(&mut self, text: &[u8]) -> anyhow::Result<()> {
+    fn write(&mut self, text: &[u8]) -> anyhow::Result<()>
+        ensures appended { OnOk result (Appends (W.contents self.old.output) (W.contents self.new.output) text.now) }
+        ensures failed { OnErr result ((k : ℕ) × Appends (W.contents self.old.output) (W.contents self.new.output) (take k text.now)) }
+        ensures input { self.new.input ≡ self.old.input }
+    {
         write_whole(&mut self.output, text)
     }
 }
@@ -56,7 +65,7 @@ fn write_whole<W: Write>(output: &mut W, text: &[u8]) -> anyhow::Result<()>
     ensures failed { OnErr result ((k : ℕ) × Appends (W.contents output.old) (W.contents output.new) (take k text.now)) }
 {
     let mut done = 0;
-    // Each loop is proved to end, and an interrupted call writes nothing: a count that no writer reaches.
+    // Each loop is proved to end, and a call that is interrupted brings it no nearer: a count that no writer reaches.
     for _ in 0..u64::MAX {
         if done == text.len() {
             return Ok(());
