@@ -1,5 +1,6 @@
 -- What passes over a wire.
-use Rattle.std.specs.Prelude.{ℕ, List, [], ◌∷◌, ◌++◌, take}
+use Rattle.std.specs.Prelude.{◌≡◌, ℕ, List, [], ◌∷◌, ◌++◌, take, None, Some}
+use Rattle.std.specs.declared.option.Option.{Option}
 
 -- bytes were read, or a text was written
 pub data Event : Type 0 where
@@ -22,3 +23,8 @@ given (Gave text ∷ events) = given events ++ text
 pub record PartGiven (log : List Event → Type 0) (text : List ℕ) (events : List Event) : Type 0 where
   pub count : ℕ
   pub logged : log (Gave (take count text) ∷ events)
+
+-- what is held is known, and ends with this text
+abbrev pub Written : Option (List ℕ) → List ℕ → Type 0
+Written None text = ⊥
+Written (Some held) text = (before : List ℕ) × (held ≡ before ++ text)

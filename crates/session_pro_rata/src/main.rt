@@ -3,8 +3,9 @@
 #![tactic(auto)]
 
 use console::serving::serve_wire;
-use console::wire::StandardWire;
+use console::wire::Streams;
 
 fn main(rt: HostRuntime) -> anyhow::Result<()> {
-    serve_wire(rt.alloc(), &mut StandardWire { rt: &rt })
+    let (input, output) = (rt.stdin(), rt.stdout());
+    serve_wire(rt.alloc(), &mut Streams { input, output })
 }
