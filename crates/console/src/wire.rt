@@ -52,23 +52,23 @@ impl<R: Read, W: Write> Wire for Streams<R, W> {
 
     fn write(&mut self, text: &[u8]) -> anyhow::Result<()>
         ensures appended { OnOk result (Appends (W.contents self.old.output) (W.contents self.new.output) text.now) }
-        ensures failed { OnErr result ((k : ℕ) × Appends (W.contents self.old.output) (W.contents self.new.output) (take k text.now)) }
+        ensures failed { OnErr result ((k : ℕ) × (k < length text.now) × Appends (W.contents self.old.output) (W.contents self.new.output) (take k text.now)) }
         ensures input { self.new.input ≡ self.old.input }
     {
         write_whole(&mut self.output, text)
     }
 }
 
-// Writes all of the text, or fails with a front part of it written.
+// Writes all of the text, or fails with no more than a front part of it written, and not all.
 fn write_whole<W: Write>(output: &mut W, text: &[u8]) -> anyhow::Result<()>
     ensures appended { OnOk result (Appends (W.contents output.old) (W.contents output.new) text.now) }
-    ensures failed { OnErr result ((k : ℕ) × Appends (W.contents output.old) (W.contents output.new) (take k text.now)) }
+    ensures failed { OnErr result ((k : ℕ) × (k < length text.now) × Appends (W.contents output.old) (W.contents output.new) (take k text.now)) }
 {
     let mut done = 0;
     // Each loop is proved to end, and a call that is interrupted brings it no nearer: a count that no writer reaches.
     for _ in 0..u64::MAX {
         if done == text.len() {
-            return Ok(());
+            break;
         }
         match output.write(&text[done..]) {
             Ok(0) => return Err(anyhow!("the output takes no more")),
@@ -80,5 +80,8 @@ fn write_whole<W: Write>(output: &mut W, text: &[u8]) -> anyhow::Result<()>
             }
         }
     }
-    Err(anyhow!("the output is interrupted without end"))
+    if done < text.len() {
+        return Err(anyhow!("the output is interrupted without end"));
+    }
+    Ok(())
 }
