@@ -1,5 +1,5 @@
 -- What is printed, byte for byte. `decimal n` and `signed_decimal z` are what a hole `{n}` writes of a number.
-use Rattle.std.specs.Prelude.{ℕ, cond, List, [], ◌∷◌, ◌++◌, ℤ, Ok, Err, codes, decimal, Result, ◌==◌}
+use Rattle.std.specs.Prelude.{◌≡◌, ℕ, ◌<◌, cond, List, [], ◌∷◌, ◌++◌, ℤ, Ok, Err, codes, length, decimal, Result, ◌==◌}
 use Rattle.std.specs.Fmt.{signed_decimal}
 use Rattle.market.specs.declared.refusal.Refusal.{Refusal}
 use Rattle.market.specs.declared.refusal.RefusalCode.{RefusalCode}
@@ -42,3 +42,7 @@ row_text row =
 abbrev pub report_text : List Row → List ℕ
 report_text [] = []
 report_text (row ∷ rows) = cond (kind_number row.kind == 0) [] (row_text row ++ report_text rows)
+
+-- the beginning of a text, and not all of it
+abbrev pub CutShort : List ℕ → List ℕ → Type 0
+CutShort part whole = (rest : List ℕ) × (0 < length rest) × (part ++ rest ≡ whole)

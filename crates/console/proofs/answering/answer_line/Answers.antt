@@ -23,6 +23,6 @@ returns-clause-answered g c =
       answer = answer;
       rows = rows;
       follows = λ line is. subst (λ (asked : Result Call Refusal). Follows (Takes shares (view v) asked) (view v) (length c.args.report.now) answer rows (view c.call-answer.new.self.venue)) (ap line_call is ∙ same_verdict call_form line 1201 (omega arith)) c.call-answer.ensures.follows;
-      written = e ∙ ap (λ (xs : List ℕ). xs ++ report_text rows) c.in_ok-write_answer.ensures ∙ append_assoc (vec_items c.args.out.now) (answer_text answer) (report_text rows);
+      written = e ∙ ap (λ (xs : List ℕ). xs ++ report_text rows) c.in_ok-write_answer.ensures.appended ∙ append_assoc (vec_items c.args.out.now) (answer_text answer) (report_text rows);
     })
-    c.write_report.ensures
+    c.write_report.ensures.appended
