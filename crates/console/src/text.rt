@@ -9,7 +9,7 @@ use std::alloc::AllocError;
 use std::fmt;
 use std::io::Write;
 
-// More bytes than any line has: a letter, a newline, and six numbers of at most 20 bytes, each behind a space.
+// No line has more bytes: a letter, six numbers of at most 20 bytes, each behind a space, and a newline.
 const LINE: usize = 128;
 
 // The line of an answer; a type of this crate, since Display can be given to no other, and Refusal is the market's.
