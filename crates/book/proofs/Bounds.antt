@@ -1,30 +1,23 @@
 -- What a match needs of levels and fills beyond the bounds of a book.
-use Rattle.std.proofs.Common.{◌≡◌, ℕ, ◌<◌, Bool, true, false, min, List, vec_items, Some, None, Option, sym, refl, ap, ◌∙◌, subst, arith}
-use Rattle.std.proofs.lemmas.List.Elements.{All-filter, filter_passes}
+use Rattle.std.proofs.Common.{◌≡◌, ℕ, ◌<◌, ◌≤◌, Bool, true, min, List, [], ◌∷◌, filter, vec_items, refl, ap, ◌∙◌, arith}
+use Rattle.std.proofs.lemmas.List.Elements.{All-nil, All-cons, All-head, All-tail, All-map, All-filter, filter_passes}
 use Rattle.std.proofs.lemmas.List.Recursion.{is_sum_by}
 use Rattle.std.proofs.lemmas.List.Sums.{get_or-le-sum_by}
-use Rattle.std.proofs.lemmas.Int.{ints}
-use Rattle.std.proofs.lemmas.Bool.{ltb-true, both_ways}
-use Rattle.std.specs.List.{Any}
-use Rattle.std.specs.Bool.{then_some}
-use Rattle.std.specs.Option.{MatchOption}
-use Rattle.rules.specs.Domain.{total}
+use Rattle.std.proofs.lemmas.Bool.{ltb-true}
+use Rattle.std.specs.List.{All, Any}
+use Rattle.rules.specs.Domain.{total, Below}
 use Rattle.market.specs.declared.book_id.BookId.{BookId}
 use Rattle.market.specs.declared.order.Order.{Order}
 use Rattle.market.specs.declared.price.Price.{Price}
 use Rattle.market.specs.declared.side.Side.{Side}
-use Rattle.market.specs.declared.side.Side.TheVariants.{Buy, Sell}
-use Rattle.market.specs.Levels.{in_level, level, quantities, Best, reduced, still_open, after_fill}
-use Rattle.market.specs.Matching.{facing, given}
-use Rattle.market.specs.Orders.{lot_book, stands, quantity_of}
-use Rattle.market.specs.Prices.{opposite, good}
+use Rattle.market.specs.Levels.{in_level, level, quantities, reduced, still_open, after_fill}
+use Rattle.market.specs.Fills.{facing, given}
+use Rattle.market.specs.Orders.{stands, quantity_of}
+use Rattle.market.specs.Prices.{opposite}
 use Rattle.market.proofs.Asking.{Bounded, level_some}
 use Rattle.book.specs.declared.orders.Orders.{Orders}
 use Rattle.book.specs.declared.place.Place.{Place}
-use Rattle.book.specs.Best.{best_of}
 use Rattle.book.specs.Bounds.{Positive}
-use Rattle.book.specs.Matched.{BestWithin}
-use Rattle.book.proofs.Levels.{BestFound, best_found}
 
 -- ---- what a level has
 
@@ -40,34 +33,28 @@ pub within_bounds : (os : Orders) → Bounded (vec_items os.inner.orders)
 within_bounds os = record { small = os.small; few = omega (arith, os.few, os.inner.orders.ok.0) }
 
 -- what was read of a fill's level, and what is given there of q
-pub level_read : (o : Order) (p : Price) (os : List Order) (q : ℕ) (place : Place) (qs : List ℕ) (sum give : ℕ) → place ≡ record { book = lot_book o.lot; side = opposite o.side; price = p }
+pub level_read : (b : BookId) (s : Side) (p : Price) (os : List Order) (q : ℕ) (place : Place) (qs : List ℕ) (sum give : ℕ) → place ≡ record { book = b; side = opposite s; price = p }
     → qs ≡ quantities (level place.book place.side place.price os) → sum ≡ total (quantities (level place.book place.side place.price os)) → give ≡ min q sum
-    → (qs ≡ quantities (facing o p os)) × (give ≡ given o p os q)
-level_read o p os q place qs sum give there read summed least = (
+    → (qs ≡ quantities (facing b s p os)) × (give ≡ given b s p os q)
+level_read b s p os q place qs sum give there read summed least = (
   read ∙ ap (λ (x : Place). quantities (level x.book x.side x.price os)) there,
   least ∙ ap (min q) (summed ∙ ap (λ (x : Place). total (quantities (level x.book x.side x.price os))) there),
 )
 
 -- ---- what a fill keeps
 
+-- the orders that stay have something open
+pub open_positive : (os : List Order) → Positive (filter still_open os)
+open_positive os i o at = ltb-true 0 _ (filter_passes still_open os i o at)
+
 pub positive_after : (test : Order → Bool) (os : List Order) (ks : List ℕ) → Positive (after_fill test os ks)
-positive_after test os ks i o at = ltb-true 0 _ (filter_passes still_open (reduced test os ks) i o at)
+positive_after test os ks = open_positive (reduced test os ks)
 
--- ---- nothing within the limit
-
-good_through : (s : Side) (p q r : Price) → good s p q ≡ true → good s p r ≡ false → good s q r ≡ false
-good_through Buy p q r h k = grind (arith, ints)
-good_through Sell p q r h k = grind (arith, ints)
-
--- the best price, where it passes the test of the limit
-pub best_filtered : (o : Order) (os : List Order) (R : Price → Bool → Type 0) → ((p : Price) (t : Bool) → R p t → t ≡ good o.side p o.price) → (b : BookId) (best r : Option Price) → b ≡ lot_book o.lot
-    → best ≡ best_of b o.side os → MatchOption best (r ≡ None) (λ p. (t : Bool) × R p t × (r ≡ then_some t p)) → BestWithin o os r
-best_filtered o os R says b best r is found kept = go best (subst (BestFound (lot_book o.lot) o.side os) (sym (found ∙ ap (λ (x : BookId). best_of x o.side os) is)) (best_found (lot_book o.lot) o.side os)) kept
+-- no share is above what an order may have open
+pub shares_small : (test : Order → Bool) (os : List Order) (ks : List ℕ) → All (λ o. quantity_of o ≤ 10000) os → Below ks (quantities (filter test os)) → All (λ k. k ≤ 10000) ks
+shares_small test os ks small below = go ks (quantities (filter test os)) below (All-map (λ q. q ≤ 10000) quantity_of (filter test os) (All-filter test (λ o. quantity_of o ≤ 10000) os small))
   where
-    near : (p : Price) → Best (lot_book o.lot) o.side os p → (t : Bool) → t ≡ good o.side p o.price → BestWithin o os (then_some t p)
-    near p f true e = (f, sym e)
-    near p f false e = λ i x at y. good_through o.side p _ o.price (f.none_better i x at y) (sym e)
-
-    go : (best : Option Price) → BestFound (lot_book o.lot) o.side os best → MatchOption best (r ≡ None) (λ p. (t : Bool) × R p t × (r ≡ then_some t p)) → BestWithin o os r
-    go None f k = subst (BestWithin o os) (sym k) (λ i x at y. absurd (both_ways _ (f i x at) y))
-    go (Some p) f k = subst (BestWithin o os) (sym k.2) (near p f k.0 (says p k.0 k.1))
+    go : (ks qs : List ℕ) → Below ks qs → All (λ q. q ≤ 10000) qs → All (λ k. k ≤ 10000) ks
+    go [] qs b a = All-nil (λ k. k ≤ 10000)
+    go (k ∷ ks) [] b a = absurd b
+    go (k ∷ ks) (q ∷ qs) b a = All-cons (λ k. k ≤ 10000) k ks (omega (arith, b.0, All-head (λ q. q ≤ 10000) q qs a)) (go ks qs b.1 (All-tail (λ q. q ≤ 10000) q qs a))

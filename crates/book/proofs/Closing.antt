@@ -1,25 +1,36 @@
 -- What a whole call comes to, from what its steps gave.
-use Rattle.std.proofs.Common.{◌≡◌, ℕ, suc, ◌≤◌, not, List, [], ◌∷◌, map, length, get_or, take, drop, Some, Err, filter, Result, sym, refl, ap, ◌∙◌, subst}
+use Rattle.std.proofs.Common.{◌≡◌, ℕ, suc, ◌+◌, ◌-◌, ◌≤◌, not, ◌++◌, List, [], ◌∷◌, map, length, get_or, take, drop, Some, Err, Option, filter, Result, sym, refl, ap, ◌∙◌, subst}
 use Rattle.std.specs.List.{remove, position}
 use Rattle.market.specs.declared.acceptance.Acceptance.{Acceptance}
-use Rattle.market.specs.declared.acceptance.Acceptance.TheVariants.{Cancelled, Switched}
+use Rattle.market.specs.declared.acceptance.Acceptance.TheVariants.{Entered, Cancelled, Switched}
 use Rattle.market.specs.declared.arrival.Arrival.{Arrival}
+use Rattle.market.specs.declared.leg.Leg.{Leg}
 use Rattle.market.specs.declared.order.Order.{Order}
 use Rattle.market.specs.declared.phase.Withdrawal.{Withdrawal}
 use Rattle.market.specs.declared.refusal.Refusal.{Refusal}
 use Rattle.market.specs.declared.row.Row.{Row}
-use Rattle.market.specs.BookCalls.{BookState, Enters, Cancels, taken_out, leaves, withdrawn}
+use Rattle.market.specs.BookCalls.{BookState, Matches, Enters, Cancels, taken_out, leaves, withdrawn}
+use Rattle.market.specs.BookCalls.Enters.{settled}
 use Rattle.market.specs.Endings.{Effect, Ending, done, refused, Follows}
 use Rattle.market.specs.Matching.{Match}
-use Rattle.market.specs.Orders.{arriving, own, quantity_of}
+use Rattle.market.specs.Orders.{arriving, lot_book, lot_size, own, quantity_of}
+use Rattle.market.specs.Round.{legs_of}
 use Rattle.market.specs.Rows.{blank, cancel_row}
+use Rattle.book.specs.declared.progress.Progress.{Progress}
 use Rattle.book.specs.declared.told.Told.{Told}
 use Rattle.book.specs.Closing.{Closes}
 use Rattle.book.specs.Matched.{Matched}
 use Rattle.book.specs.Reports.{Holds, Tells}
-use Rattle.book.specs.Settling.{Ready, Settled, Settles}
+use Rattle.book.specs.Rounds.{Rounded}
+use Rattle.book.specs.Settling.{Settled, SettledAt, Settling}
 use Rattle.book.proofs.Reports.{blank_long}
 use Rattle.book.proofs.Finding.{around, found_first, found_own, found_inside}
+
+-- a call may take this effect, and its rows are told
+pub record Ready (Allowed : Ending BookState → Type 0) (accepted : Acceptance) (after : BookState) (t : Told) : Type 0 where
+  pub told : List Row
+  pub allowed : Allowed (done (record { accepted = accepted; rows = told; after = after }))
+  pub holds : Holds t told
 
 module _ (Allowed : Ending BookState → Type 0) (m : BookState) (room : ℕ) where
   pub follows_refused : (e : Refusal) (answer : Result (ℕ × ℕ) Refusal) (t : Told) (rows : List Row) → answer ≡ Err e → Allowed (refused e) → rows ≡ t.rows.now → t.rows.now ≡ blank room → Follows Allowed m room answer rows m
@@ -34,14 +45,27 @@ module _ (Allowed : Ending BookState → Type 0) (m : BookState) (room : ℕ) wh
 
 -- ---- each call, from what its steps gave
 
-pub settled_by : (shares : List ℕ → ℕ → List ℕ) (a : Arrival) (n : ℕ) (o : Order) (os₀ before : List Order) (t₀ : Told) (left : ℕ) (os : List Order) (t : Told) (r : Result ℕ Refusal) (os' : List Order) (t' : Told)
-    → o ≡ arriving a n → os₀ ≡ before → n ≤ 99999 → Matched shares o os₀ t₀ left os t → Holds t₀ [] → Settles before n a left os t r os' t'
-    → Settled (Enters shares (record { orders = before; next = n }) a) n r os' t'
-settled_by shares a n o os₀ before t₀ left os t r os' t' is same few m start settles =
-    let run : Match shares (arriving a n) 1 a.quantity.0 before m.told m.next_fill left os =
-    subst (λ (x : Order). Match shares x 1 (quantity_of x) before m.told m.next_fill left os) is
-    (subst (λ (xs : List Order). Match shares o 1 (quantity_of o) xs m.told m.next_fill left os) same m.run) in
-    settles.settled shares m.told m.next_fill few run (m.more.holds [] start)
+module _ (shares : List ℕ → ℕ → List ℕ) (cs : List (List Leg)) (a : Arrival) (n : ℕ) (before : List Order) where
+  abbrev state : BookState
+  state = record { orders = before; next = n }
+
+  pub settled_by : (legs : Option (List Leg)) (o : Order) (os₀ : List Order) (t₀ : Told) (at : Progress) (os : List Order) (t : Told) (r : Result Progress Refusal) (os' : List Order) (t' : Told)
+      → legs ≡ legs_of cs (lot_book a.lot) → o ≡ arriving a n → os₀ ≡ before → n ≤ 99999
+      → Matched shares legs o os₀ t₀ at.next_fill at.left os t → Holds t₀ [] → Settling before n a at os t r os' t' → Settled shares cs state a r os' t'
+  settled_by legs o os₀ t₀ at os t r os' t' of is same few m start settling =
+      let run : Matches shares cs state a m.rows at.next_fill at.left os =
+      subst (λ (l : Option (List Leg)). Match shares l (arriving a n) 1 (lot_size a.lot) before m.rows at.next_fill at.left os) of
+      (subst (λ (x : Order). Match shares legs x 1 (quantity_of x) before m.rows at.next_fill at.left os) is
+      (subst (λ (xs : List Order). Match shares legs o 1 (quantity_of o) xs m.rows at.next_fill at.left os) same m.run)) in
+      settling.settled shares cs m.rows few run (m.more.holds [] start)
+
+  pub enters_ready : (at : Progress) (os : List Order) (t : Told) (os' : List Order) (t' : Told) (traded : ℕ) → n ≤ 99999 → SettledAt shares cs state a at os t → Rounded shares cs at.next_fill os t os' t' → traded ≡ lot_size a.lot - at.left
+      → Ready (Enters shares cs state a) (Entered n traded) (record { orders = os'; next = n + 1 }) t'
+  enters_ready at os t os' t' traded few s r is = record {
+    told = s.rows ++ r.rows;
+    allowed = subst (λ k. Enters shares cs state a (done (record { accepted = Entered n k; rows = s.rows ++ r.rows; after = record { orders = os'; next = n + 1 } }))) (sym is) (settled few s.settles r.run);
+    holds = r.more.holds s.rows s.holds;
+  }
 
 pub cancel_ready : (m : BookState) (p n i : ℕ) (o d : Order) (row : Row) (quantity : ℕ) (os : List Order) (t t' : Told)
     → position (own p n) m.orders ≡ Some i → o ≡ get_or m.orders i d → row ≡ cancel_row o → quantity ≡ quantity_of o → os ≡ remove m.orders i

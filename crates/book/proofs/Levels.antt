@@ -5,7 +5,7 @@ use Rattle.std.proofs.lemmas.List.Quantifiers.{Any-push}
 use Rattle.std.proofs.lemmas.List.{map-append, append-nil, append_assoc, length-append, get_or_append_left}
 use Rattle.std.proofs.lemmas.Int.{ints}
 use Rattle.std.proofs.lemmas.Bool.{both_ways, cond_both}
-use Rattle.std.specs.List.{fold, All, Any}
+use Rattle.std.specs.List.{fold, Any}
 use Rattle.std.specs.Option.{MatchOption}
 use Rattle.rules.specs.Domain.{total}
 use Rattle.market.specs.declared.book_id.BookId.{BookId}
@@ -14,10 +14,11 @@ use Rattle.market.specs.declared.order.Order.{Order}
 use Rattle.market.specs.declared.price.Price.{Price}
 use Rattle.market.specs.declared.side.Side.{Side}
 use Rattle.market.specs.declared.side.Side.TheVariants.{Buy, Sell}
-use Rattle.market.specs.Levels.{in_level, level, quantities, Best}
+use Rattle.market.specs.Fills.{BestLevel}
+use Rattle.market.specs.Levels.{in_level, level, quantities}
 use Rattle.market.specs.Orders.{stands, quantity_of}
 use Rattle.market.specs.Prices.{opposite, good}
-use Rattle.book.specs.Best.{better, best_among, best_of}
+use Rattle.book.specs.Best.{better, best_among}
 
 -- the order that a read past the end would give
 abbrev pub no_order : Order
@@ -44,6 +45,10 @@ read_more b s p os k d qs qs' lt h e =
 
 -- ---- the best price
 
+-- the best of the opposite orders' prices; none where there is no such order
+abbrev pub best_of : BookId → Side → List Order → Option Price
+best_of b s os = best_among s (map (λ o. o.price) (filter (stands b (opposite s)) os))
+
 -- the better of a price and one that may be there
 abbrev better_of : Side → Option Price → Price → Option Price
 better_of s None p = Some p
@@ -57,11 +62,6 @@ from_first s q (p ∷ ps) = from_first s (better s q p) ps
 from_none : (s : Side) (ps : List Price) → fold (better_of s) None ps ≡ best_among s ps
 from_none s [] = refl
 from_none s (p ∷ ps) = from_first s p ps
-
--- the best price, or none where the opposite side is empty
-abbrev pub BestFound : BookId → Side → List Order → Option Price → Type 0
-BestFound b s os None = All (λ o. stands b (opposite s) o ≡ false) os
-BestFound b s os (Some p) = Best b s os p
 
 good_self : (s : Side) (p : Price) → good s p p ≡ true
 good_self Buy p = grind (arith, ints)
@@ -85,7 +85,7 @@ module _ (b : BookId) (s : Side) (os : List Order) (o : Order) where
   AsGood p x = here x ≡ true → good s p x.price ≡ true
 
   -- an order that stands elsewhere changes nothing
-  found_no : (best : Option Price) → BestFound b s os best → here o ≡ false → BestFound b s (os ++ o ∷ []) best
+  found_no : (best : Option Price) → BestLevel b s os best → here o ≡ false → BestLevel b s (os ++ o ∷ []) best
   found_no None h n = All-push (λ x. here x ≡ false) os o h n
   found_no (Some p) h n = record {
     there = any_left _ os (o ∷ []) h.there;
@@ -93,14 +93,14 @@ module _ (b : BookId) (s : Side) (os : List Order) (o : Order) where
   }
 
   -- an order that stands there may be the better one
-  found_yes : (best : Option Price) → BestFound b s os best → here o ≡ true → BestFound b s (os ++ o ∷ []) (better_of s best o.price)
+  found_yes : (best : Option Price) → BestLevel b s os best → here o ≡ true → BestLevel b s (os ++ o ∷ []) (better_of s best o.price)
   found_yes None h y = record {
     there = Any-push _ os o (y, refl);
     none_better = All-push (AsGood o.price) os o (λ i x at t. absurd (both_ways _ (h i x at) t)) (λ _. good_self s o.price);
   }
   found_yes (Some q) h y = go (good s q o.price) refl
     where
-      go : (t : Bool) → good s q o.price ≡ t → BestFound b s (os ++ o ∷ []) (Some (cond t q o.price))
+      go : (t : Bool) → good s q o.price ≡ t → BestLevel b s (os ++ o ∷ []) (Some (cond t q o.price))
       go true e = record {
         there = any_left _ os (o ∷ []) h.there;
         none_better = All-push (AsGood q) os o h.none_better (λ _. e);
@@ -116,17 +116,17 @@ module _ (b : BookId) (s : Side) where
   opposed os = map (λ o. o.price) (filter (stands b (opposite s)) os)
 
   -- what was the best of the orders before goes on to the best of all
-  best_onward : (before : List Order) (best : Option Price) (os : List Order) → BestFound b s before best → BestFound b s (before ++ os) (fold (better_of s) best (opposed os))
-  best_onward before best [] h = subst (λ (xs : List Order). BestFound b s xs best) (sym (append-nil before)) h
+  best_onward : (before : List Order) (best : Option Price) (os : List Order) → BestLevel b s before best → BestLevel b s (before ++ os) (fold (better_of s) best (opposed os))
+  best_onward before best [] h = subst (λ (xs : List Order). BestLevel b s xs best) (sym (append-nil before)) h
   best_onward before best (o ∷ os) h =
-      subst (λ (xs : List Order). BestFound b s xs (fold (better_of s) best (opposed (o ∷ os)))) (append_assoc before (o ∷ []) os)
-      (cond_both (stands b (opposite s) o) (o ∷ filter (stands b (opposite s)) os) (filter (stands b (opposite s)) os) (λ (xs : List Order). BestFound b s ((before ++ o ∷ []) ++ os) (fold (better_of s) best (map (λ x. x.price) xs)))
+      subst (λ (xs : List Order). BestLevel b s xs (fold (better_of s) best (opposed (o ∷ os)))) (append_assoc before (o ∷ []) os)
+      (cond_both (stands b (opposite s) o) (o ∷ filter (stands b (opposite s)) os) (filter (stands b (opposite s)) os) (λ (xs : List Order). BestLevel b s ((before ++ o ∷ []) ++ os) (fold (better_of s) best (map (λ x. x.price) xs)))
       (λ y. best_onward (before ++ o ∷ []) (better_of s best o.price) os (found_yes b s before o best h y))
       (λ n. best_onward (before ++ o ∷ []) best os (found_no b s before o best h n)))
 
   -- a scan finds the best price
-  pub best_found : (os : List Order) → BestFound b s os (best_of b s os)
-  best_found os = subst (BestFound b s os) (from_none s (opposed os)) (best_onward [] None os (All-nil _))
+  pub best_found : (os : List Order) → BestLevel b s os (best_of b s os)
+  best_found os = subst (BestLevel b s os) (from_none s (opposed os)) (best_onward [] None os (All-nil _))
 
 -- ---- a scan by references
 

@@ -1,6 +1,6 @@
 -- Rows told one after another.
-use Rattle.std.proofs.Common.{◌≡◌, ℕ, suc, ◌+◌, ◌-◌, ◌<◌, ◌≤◌, List, [], ◌∷◌, ◌++◌, length, set, Some, None, Option, sym, refl, ap, ◌∙◌, subst, arith}
-use Rattle.std.proofs.lemmas.List.{append_assoc, append-nil, length-append, length-replicate, length-set, set_at}
+use Rattle.std.proofs.Common.{◌≡◌, ℕ, suc, ◌+◌, ◌-◌, ◌<◌, ◌≤◌, List, [], ◌∷◌, ◌++◌, map, length, get_or, take, set, Some, None, Option, sym, refl, ap, ◌∙◌, subst, arith}
+use Rattle.std.proofs.lemmas.List.{append_assoc, append-nil, map-append, take_more, length-append, length-replicate, length-set, set_at}
 use Rattle.std.specs.Option.{MatchOption}
 use Rattle.market.specs.declared.row.Row.{Row}
 use Rattle.market.specs.Rows.{blank, blank_row}
@@ -48,3 +48,9 @@ tells_then t t' t'' new newer a b = record {
   report = same_then t t' t'' a.report b.report;
   holds = λ told h. subst (Holds t'') (append_assoc told new newer) (b.holds (told ++ new) (a.holds told h));
 }
+
+-- one more row, of the element at the place i
+pub tells_next : {X : Type 0} (f : X → Row) (xs : List X) (i : ℕ) (d : X) (t₀ t t' : Told) (row : Row) → i < length xs → Tells t₀ (map f (take i xs)) t → row ≡ f (get_or xs i d) → Tells t (row ∷ []) t' → Tells t₀ (map f (take (i + 1) xs)) t'
+tells_next f xs i d t₀ t t' row lt so_far is new =
+    subst (λ (rs : List Row). Tells t₀ rs t') (ap (λ (r : Row). map f (take i xs) ++ r ∷ []) is ∙ sym (ap (map f) (take_more xs i d lt) ∙ map-append f (take i xs) (get_or xs i d ∷ [])))
+    (tells_then t₀ t t' (map f (take i xs)) (row ∷ []) so_far new)

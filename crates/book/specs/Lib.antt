@@ -1,8 +1,14 @@
 pub mod Bounds
 pub mod Best
 pub mod Held
-pub mod Facing
 pub mod Reports
+pub mod Facing
+pub mod Table
+pub mod Reading
+pub mod Units
+pub mod Runs
+pub mod Taken
 pub mod Matched
+pub mod Rounds
 pub mod Settling
 pub mod Closing

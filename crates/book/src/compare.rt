@@ -3,10 +3,11 @@ ghost use Rattle.std.specs.Prelude.{◌≡◌};
 ghost use Rattle.market.specs.Prices.{opposite, good};
 ghost use Rattle.market.specs.Orders.{stands};
 
+use crate::amounts::amount_good;
 use crate::lot::lot_book;
 use market::book_id::BookId;
 use market::order::Order;
-use market::price::Price;
+use market::price::{Amount, Price};
 use market::side::Side;
 
 // The other side. Its natural form is a method, but `Side` is the market's: one more public promise there.
@@ -19,14 +20,11 @@ pub(crate) fn opposite(side: Side) -> Side
     }
 }
 
-// To one who trades on this side, `p` is at least as good as `q`; a derived order would need the match all the same.
+// To one who trades on this side, `p` is at least as good as `q`.
 pub(crate) fn good(side: Side, p: Price, q: Price) -> bool
     ensures { result ≡ good side p q }
 {
-    match side {
-        Side::Buy => p.0 <= q.0,
-        Side::Sell => q.0 <= p.0,
-    }
+    amount_good(side, Amount::from(p), Amount::from(q))
 }
 
 // The order rests in this book, on this side.

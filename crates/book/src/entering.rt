@@ -1,10 +1,10 @@
 // An order on entering the book.
 ghost use Rattle.std.specs.Prelude.{◌≡◌, ◌≤◌};
-ghost use Rattle.market.specs.Orders.{arriving, quantity_of};
+ghost use Rattle.market.specs.Orders.{arriving, lot_size, quantity_of};
 
 use market::arrival::Arrival;
 use market::call::Duration;
-use market::order::{Lot, Order};
+use market::order::Order;
 
 // The order, and how long what it does not trade may stand.
 #[derive(Clone, Copy)]
@@ -17,7 +17,7 @@ pub(crate) struct Entering {
 impl Entering {
     // What arrives, under the number that it is given; no `From`, as that number comes beside it.
     pub(crate) fn new(arrival: Arrival, number: u32) -> Entering
-        requires { arrival.quantity.0 ≤ 10000 }
+        requires { lot_size arrival.lot ≤ 10000 }
         ensures order { result.order ≡ arriving arrival number }
         ensures duration { result.duration ≡ arrival.duration }
     {
@@ -26,10 +26,7 @@ impl Entering {
             participant: arrival.participant,
             side: arrival.side,
             price: arrival.price,
-            lot: Lot::Outright {
-                instrument: arrival.instrument,
-                quantity: arrival.quantity,
-            },
+            lot: arrival.lot,
             quote: false,
         };
         Entering {

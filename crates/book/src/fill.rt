@@ -1,30 +1,33 @@
-// One fill of a match.
+// One fill at a level.
 ghost use Rattle.std.specs.Prelude.{◌≡◌};
-ghost use Rattle.market.specs.Orders.{lot_book};
 ghost use Rattle.market.specs.Prices.{opposite};
 
 use crate::compare::opposite;
-use crate::lot::lot_book;
 use crate::place::Place;
-use market::order::Order;
+use market::book_id::BookId;
+use market::leg::Leg;
 use market::price::Price;
+use market::side::Side;
 
-// Its number in the call, the order that takes, and the price of the level that it takes from.
-#[derive(Clone, Copy)]
-pub(crate) struct Fill {
+// Its number in the call, the number of the order that takes, and the level: the book and the price, the taker's side, and the legs of the combination that it is of, if it is of one.
+#[derive(Drop)]
+pub(crate) struct Fill<'a> {
     pub number: u32,
-    pub taker: Order,
+    pub taker: u32,
+    pub book: BookId,
+    pub side: Side,
     pub price: Price,
+    pub legs: Option<&'a [Leg]>,
 }
 
-impl Fill {
+impl Fill<'_> {
     // The place of the level.
-    pub(crate) fn place(self) -> Place
-        ensures { result ≡ record { book = lot_book self.taker.lot; side = opposite self.taker.side; price = self.price } }
+    pub(crate) fn place(&self) -> Place
+        ensures { result ≡ record { book = self.now.book; side = opposite self.now.side; price = self.now.price } }
     {
         Place {
-            book: lot_book(self.taker.lot),
-            side: opposite(self.taker.side),
+            book: self.book,
+            side: opposite(self.side),
             price: self.price,
         }
     }

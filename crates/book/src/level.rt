@@ -1,8 +1,9 @@
 // Levels, read off the resting orders.
 ghost use Rattle.std.specs.Prelude.{◌≡◌, length};
 ghost use Rattle.rules.specs.Domain.{total};
+ghost use Rattle.market.specs.Fills.{BestLevel};
 ghost use Rattle.market.specs.Levels.{level, quantities};
-ghost use Rattle.book.specs.Best.{better, best_of};
+ghost use Rattle.book.specs.Best.{better};
 ghost use Rattle.book.specs.Held.{held};
 
 use crate::compare::{good, opposite, stands};
@@ -48,7 +49,7 @@ pub(crate) fn read_level(orders: &Orders, place: Place, scratch: &mut Scratch) -
 }
 
 // The better of two prices; of two equal ones, the first.
-fn better(side: Side, q: Price, p: Price) -> Price
+pub(crate) fn better(side: Side, q: Price, p: Price) -> Price
     ensures { result ≡ better side q p }
 {
     if good(side, q, p) { q } else { p }
@@ -56,7 +57,7 @@ fn better(side: Side, q: Price, p: Price) -> Price
 
 // The best price to one who trades on `side`, where the other side has any order.
 pub(crate) fn best_price(orders: &[Order], book: BookId, side: Side) -> Option<Price>
-    ensures { result ≡ best_of book side orders.now }
+    ensures { BestLevel book side orders.now result }
 {
     let facing = opposite(side);
     orders

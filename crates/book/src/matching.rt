@@ -1,85 +1,82 @@
-// The match of an arriving order with the opposite side of its book.
-ghost use Rattle.std.specs.Prelude.{◌≡◌, ◌≤◌};
-ghost use Rattle.market.specs.Levels.{after_fill, Best};
-ghost use Rattle.market.specs.Matching.{facing, given, divided};
-ghost use Rattle.market.specs.Orders.{quantity_of, lot_book};
-ghost use Rattle.market.specs.Rows.{fill_rows};
-ghost use Rattle.book.specs.Facing.{faces};
+// The match of an arriving order.
+ghost use Rattle.std.specs.Prelude.{◌<◌, ◌≤◌};
+ghost use Rattle.market.specs.Orders.{quantity_of};
+ghost use Rattle.book.specs.Bounds.{LegsFit};
 ghost use Rattle.book.specs.Held.{held};
-ghost use Rattle.book.specs.Matched.{BestWithin, Matched};
-ghost use Rattle.book.specs.Reports.{Tells};
+ghost use Rattle.book.specs.Matched.{Stepped, Matched};
+ghost use Rattle.book.specs.Settling.{InBounds};
+ghost use Rattle.book.specs.Table.{lent};
 
-use crate::compare::good;
 use crate::draft::Draft;
-use crate::entering::Entering;
 use crate::fill::Fill;
-use crate::level::{best_price, read_level};
 use crate::lot::{lot_book, lot_size};
+use crate::progress::Progress;
+use crate::step::{Step, next_step};
 use crate::told::Told;
+use market::leg::Leg;
 use market::order::Order;
-use market::price::Price;
 use rules::rule::AllocationRule;
 
-// The best opposite price, where it is within the order's limit.
-fn best_within(orders: &[Order], taker: Order) -> Option<Price>
-    ensures { BestWithin taker orders.now result }
-{
-    best_price(orders, lot_book(taker.lot), taker.side).filter(|price| good(
-        taker.side,
-        *price,
-        taker.price,
-    ))
-}
-
 impl Draft {
-    // One fill of what is left, divided once by the rule; gives back what traded.
-    fn fill_level<R: AllocationRule>(
+    // One step of a match, as the fill of this number; gives back what traded, or nothing once the match is over.
+    fn take_step<R: AllocationRule>(
         &mut self,
         rule: &R,
-        fill: Fill,
-        left: u32,
+        order: &Order,
+        legs: Option<&[Leg]>,
+        at: Progress,
         told: &mut Told<'_>,
-    ) -> u32
-        requires { Best (lot_book fill.taker.lot) fill.taker.side (held self.old.orders) fill.price }
-        ensures given { result ≡ given fill.taker fill.price (held self.old.orders) left }
-        ensures orders { held self.new.orders ≡ after_fill (faces fill.taker fill.price) (held self.old.orders) (divided (R.AllocationRule.shares rule.now) fill.taker fill.price (held self.old.orders) left) }
-        ensures rows { Tells told.old (fill_rows fill.number fill.taker.number (facing fill.taker fill.price (held self.old.orders)) (divided (R.AllocationRule.shares rule.now) fill.taker fill.price (held self.old.orders) left)) told.new }
+    ) -> Option<u32>
+        requires legs { LegsFit (lent legs) }
+        requires some { 0 < at.left }
+        requires few { at.left ≤ 10000 }
+        ensures { Stepped (R.AllocationRule.shares rule.now) (lent legs.entry) order.now at (held self.old.orders) told.old result (held self.new.orders) told.new }
     {
         let scratch = &mut self.scratch;
-        let level = read_level(&self.orders, fill.place(), scratch);
-        let traded = left.min(level.total);
-        scratch.divide(rule, traded);
-        let shares = scratch.shares.as_slice();
-        self.orders.trade(fill, shares, told);
-        traded
+        match next_step(&self.orders, order, legs, at.left, scratch) {
+            Step::Level(price) => {
+                let fill = Fill {
+                    number: at.next_fill,
+                    taker: order.number,
+                    book: lot_book(order.lot),
+                    side: order.side,
+                    price,
+                    legs,
+                };
+                Some(self.fill_level(rule, &fill, at.left, told))
+            }
+            Step::Units(wanted) => {
+                self.fill_units(rule, at.next_fill, order, &wanted, told);
+                Some(wanted.run.units.0)
+            }
+            Step::Over => None,
+        }
     }
 
-    // Trades an arriving order level after level, best first; gives back what is left of it.
+    // Trades an arriving order until nothing more trades.
     pub(crate) fn match_order<R: AllocationRule>(
         &mut self,
         rule: &R,
-        entering: Entering,
+        order: &Order,
+        legs: Option<&[Leg]>,
         told: &mut Told<'_>,
-    ) -> u32
-        ensures run { Matched (R.AllocationRule.shares rule.now) entering.order (held self.old.orders) told.old result (held self.new.orders) told.new }
-        ensures left { result ≤ quantity_of entering.order }
+    ) -> Progress
+        requires legs { LegsFit (lent legs) }
+        requires few { quantity_of order.now ≤ 10000 }
+        ensures run { Matched (R.AllocationRule.shares rule.now) (lent legs.entry) order.now (held self.old.orders) told.old result.next_fill result.left (held self.new.orders) told.new }
+        ensures bounds { InBounds order.now result }
     {
-        let taker = entering.order;
-        let mut left = lot_size(taker.lot);
-        // By hand: it numbers the fills in their rows, and the loop does not end by it.
-        let mut number = 1;
-        while left > 0 {
-            let Some(price) = best_within(self.orders.as_slice(), taker) else {
+        let mut at = Progress {
+            next_fill: 1,
+            left: lot_size(order.lot),
+        };
+        while at.left > 0 {
+            let Some(traded) = self.take_step(rule, order, legs, at, told) else {
                 break;
             };
-            let fill = Fill {
-                number,
-                taker,
-                price,
-            };
-            left -= self.fill_level(rule, fill, left, told);
-            number += 1;
+            at.next_fill += 1;
+            at.left -= traded;
         }
-        left
+        at
     }
 }

@@ -1,14 +1,16 @@
 // Resting orders within the bounds of a book.
-ghost use Rattle.std.specs.Prelude.{◌≡◌, ◌<◌, ◌≤◌, ◌++◌, [], ◌∷◌, not, map, filter, length, position, vec_len, vec_capacity, slice_index_or, IfOk};
+ghost use Rattle.std.specs.Prelude.{◌≡◌, ◌+◌, ◌<◌, ◌≤◌, take, drop, ◌++◌, [], ◌∷◌, not, map, filter, length, position, vec_len, vec_capacity, slice_index_or, IfOk};
 ghost use Rattle.std.specs.List.{remove};
 ghost use Rattle.rules.specs.Domain.{Below};
+ghost use Rattle.market.specs.declared.order.Order.{Order as OrderT};
 ghost use Rattle.market.specs.BookCalls.{leaves};
 ghost use Rattle.market.specs.Levels.{quantities, after_fill};
-ghost use Rattle.market.specs.Matching.{facing};
 ghost use Rattle.market.specs.Orders.{own, quantity_of};
-ghost use Rattle.market.specs.Rows.{cancel_row, fill_rows};
-ghost use Rattle.book.specs.Bounds.{Small, Positive};
-ghost use Rattle.book.specs.Facing.{faces};
+ghost use Rattle.market.specs.Round.{left_of};
+ghost use Rattle.market.specs.Rows.{cancel_row};
+ghost use Rattle.book.specs.Bounds.{Small, Positive, LegsFit};
+ghost use Rattle.book.specs.Facing.{faces, faced, rows_of};
+ghost use Rattle.book.specs.Table.{lent};
 ghost use Rattle.book.specs.Reports.{Tells};
 
 use crate::fill::Fill;
@@ -91,11 +93,22 @@ impl Orders {
         self.inner.orders.remove(i)
     }
 
+    // An order trades so much, and leaves if it has nothing open then.
+    pub(crate) fn take_from(&mut self, i: usize, taken: u32)
+        requires inside { i < length (held self.old) }
+        requires enough { (d : OrderT) → taken ≤ quantity_of (slice_index_or (held self.old) i d) }
+        ensures { (d : OrderT) → held self.new ≡ take i (held self.old) ++ left_of (slice_index_or (held self.old) i d) taken ++ drop (i + 1) (held self.old) }
+    {
+        self.inner.reduce(i, taken);
+        self.inner.drop_spent();
+    }
+
     // One fill of a level, by the shares that its orders have in it; those with nothing open then leave.
-    pub(crate) fn trade(&mut self, fill: Fill, shares: &[u32], told: &mut Told<'_>)
-        requires { Below shares.now (quantities (facing fill.taker fill.price (held self.old))) }
-        ensures orders { held self.new ≡ after_fill (faces fill.taker fill.price) (held self.old) shares.now }
-        ensures rows { Tells told.old (fill_rows fill.number fill.taker.number (facing fill.taker fill.price (held self.old)) shares.now) told.new }
+    pub(crate) fn trade(&mut self, fill: &Fill<'_>, shares: &[u32], told: &mut Told<'_>)
+        requires below { Below shares.now (quantities (faced fill.now (held self.old))) }
+        requires legs { LegsFit (lent fill.now.legs) }
+        ensures orders { held self.new ≡ after_fill (faces fill.now) (held self.old) shares.now }
+        ensures rows { Tells told.old (rows_of fill.now (held self.old) shares.now) told.new }
     {
         self.inner.take_shares(fill, shares, told);
         self.inner.drop_spent();

@@ -1,14 +1,15 @@
 // What becomes of what an arriving order did not trade.
-ghost use Rattle.std.specs.Prelude.{◌≡◌, ◌≤◌, ℕ};
+ghost use Rattle.std.specs.Prelude.{◌≡◌, ℕ, IfOk};
 ghost use Rattle.market.specs.declared.arrival.Arrival.{Arrival};
-ghost use Rattle.market.specs.Orders.{quantity_of, sized, arriving};
+ghost use Rattle.market.specs.Orders.{sized, arriving};
 ghost use Rattle.book.specs.Held.{held};
-ghost use Rattle.book.specs.Settling.{Settles};
+ghost use Rattle.book.specs.Settling.{Settling, InBounds};
 
 use crate::draft::Draft;
 use crate::entering::Entering;
 use crate::lot::{lot_size, sized_lot};
 use crate::orders::{MOST_ORDERS, Orders};
+use crate::progress::Progress;
 use crate::rows::cancel_row;
 use crate::told::Told;
 use market::call::Duration;
@@ -27,39 +28,42 @@ fn sized(order: Order, quantity: u32) -> Order
 
 impl Draft {
     // Lets what is left of an order rest, or cancels it; a fill-or-kill order with any left takes back its fills.
-    // Gives back what the order has traded.
+    // Gives back how far the order has come.
     pub(crate) fn settle(
         &mut self,
         before: &Orders,
         entering: Entering,
-        left: u32,
+        at: Progress,
         told: &mut Told<'_>,
-    ) -> Result<u32, Refusal>
-        requires { left ≤ quantity_of entering.order }
-        ensures { (a : Arrival) (n : ℕ) → entering.order ≡ arriving a n → entering.duration ≡ a.duration → Settles (held before.now) n a left (held self.old.orders) told.old result (held self.new.orders) told.new }
+    ) -> Result<Progress, Refusal>
+        requires { InBounds entering.order at }
+        ensures settles { (a : Arrival) (n : ℕ) → entering.order ≡ arriving a n → entering.duration ≡ a.duration → Settling (held before.now) n a at (held self.old.orders) told.old result (held self.new.orders) told.new }
+        ensures bounds { IfOk result (λ p. InBounds entering.order p) }
     {
         let order = entering.order;
-        let quantity = lot_size(order.lot);
-        if left == 0 {
-            return Ok(quantity);
+        if at.left == 0 {
+            return Ok(at);
         }
         match entering.duration {
             Duration::Day => {
                 if self.orders.as_slice().len() >= MOST_ORDERS {
                     return refuse(told.rows, Refusal::BookFull);
                 }
-                self.orders.push(sized(order, left));
-                Ok(quantity - left)
+                self.orders.push(sized(order, at.left));
+                Ok(at)
             }
             Duration::Immediate => {
-                told.push(cancel_row(&sized(order, left)));
-                Ok(quantity - left)
+                told.push(cancel_row(&sized(order, at.left)));
+                Ok(at)
             }
             Duration::FillOrKill => {
                 self.orders.copy_from(before);
                 told.wipe();
                 told.push(cancel_row(&order));
-                Ok(0)
+                Ok(Progress {
+                    next_fill: 1,
+                    left: lot_size(order.lot),
+                })
             }
         }
     }

@@ -1,21 +1,21 @@
 // The resting orders themselves, in order of arrival.
 ghost use Rattle.std.specs.Prelude.{◌≡◌, ◌<◌, ◌≤◌, length, vec_len, vec_capacity, filter, slice_index_or, slice_set};
 ghost use Rattle.std.specs.Borrow.{sem, follows};
+ghost use Rattle.std.specs.List.{All};
 ghost use Rattle.std.specs.Vec.{with_item};
 ghost use Rattle.rules.specs.Domain.{Below};
 ghost use Rattle.market.specs.declared.order.Order.{Order as OrderT};
 ghost use Rattle.market.specs.contracts.order.Order.{the_row as order_row};
 ghost use Rattle.market.specs.Levels.{quantities, reduced, still_open};
-ghost use Rattle.market.specs.Matching.{facing};
 ghost use Rattle.market.specs.Orders.{quantity_of, less};
-ghost use Rattle.market.specs.Rows.{fill_rows};
 ghost use Rattle.book.specs.contracts.resting.Resting.{the_row};
-ghost use Rattle.book.specs.Facing.{faces};
+ghost use Rattle.book.specs.Bounds.{LegsFit};
+ghost use Rattle.book.specs.Facing.{faces, faced, rows_of};
+ghost use Rattle.book.specs.Table.{lent};
 ghost use Rattle.book.specs.Reports.{Tells};
 
 use crate::fill::Fill;
 use crate::lot::{lot_size, sized_lot};
-use crate::rows::trade_row;
 use crate::told::Told;
 use market::order::Order;
 
@@ -42,7 +42,7 @@ impl Resting {
     }
 
     // Takes so much from one order.
-    fn reduce(&mut self, i: usize, taken: u32)
+    pub(crate) fn reduce(&mut self, i: usize, taken: u32)
         requires within { i < vec_len self.old.orders }
         requires enough { (d : OrderT) → taken ≤ quantity_of (slice_index_or self.old.orders.items i d) }
         ensures orders { (d : OrderT) → self.new.orders.items ≡ slice_set self.old.orders.items i (less (slice_index_or self.old.orders.items i d) taken) }
@@ -52,11 +52,13 @@ impl Resting {
         order.lot = sized_lot(order.lot, lot_size(order.lot) - taken);
     }
 
-    // Takes its share from each order of a level, and writes a row for each share that is not 0.
-    pub(crate) fn take_shares(&mut self, fill: Fill, shares: &[u32], told: &mut Told<'_>)
-        requires { Below shares.now (quantities (facing fill.taker fill.price self.old.orders.items)) }
-        ensures orders { self.new.orders.items ≡ reduced (faces fill.taker fill.price) self.old.orders.items shares.now }
-        ensures rows { Tells told.old (fill_rows fill.number fill.taker.number (facing fill.taker fill.price self.old.orders.items) shares.now) told.new }
+    // Takes its share from each order of a level, and writes the rows of each share that is not 0.
+    pub(crate) fn take_shares(&mut self, fill: &Fill<'_>, shares: &[u32], told: &mut Told<'_>)
+        requires below { Below shares.now (quantities (faced fill.now self.old.orders.items)) }
+        requires few { All (λ k. k ≤ 10000) shares.now }
+        requires legs { LegsFit (lent fill.now.legs) }
+        ensures orders { self.new.orders.items ≡ reduced (faces fill.now) self.old.orders.items shares.now }
+        ensures rows { Tells told.old (rows_of fill.now self.old.orders.items shares.now) told.new }
         ensures capacity { vec_capacity self.new.orders ≡ vec_capacity self.old.orders }
     {
         let place = fill.place();
@@ -66,7 +68,7 @@ impl Resting {
             let order = self.orders[i];
             if place.holds(&order) {
                 let taken = *left.next().unwrap();
-                told.push_some(trade_row(fill, &order, taken));
+                told.push_share(fill, &order, taken);
                 self.reduce(i, taken);
             }
         }

@@ -1,5 +1,5 @@
 // Two lists to work in.
-ghost use Rattle.std.specs.Prelude.{◌≡◌, ◌≤◌};
+ghost use Rattle.std.specs.Prelude.{◌≡◌};
 ghost use Rattle.rules.specs.Domain.{Domain};
 
 use crate::orders::MOST_ORDERS;

@@ -1,8 +1,15 @@
 // The report of a call, and how many of its rows are told.
-ghost use Rattle.std.specs.Prelude.{◌≡◌, [], ◌∷◌, length};
-ghost use Rattle.market.specs.Rows.{blank, some_row};
+ghost use Rattle.std.specs.Prelude.{◌≡◌, ◌≤◌, [], ◌∷◌, map, length};
+ghost use Rattle.market.specs.Rows.{blank, some_rows, share_rows, leg_row};
+ghost use Rattle.book.specs.Bounds.{SmallLegs, LegsFit};
+ghost use Rattle.book.specs.Table.{lent};
 ghost use Rattle.book.specs.Reports.{Holds, Tells};
 
+use crate::fill::Fill;
+use crate::rows::{combination_row, leg_row, trade_row};
+use market::counts::{Contracts, Units};
+use market::leg::Leg;
+use market::order::Order;
 use market::row::Row;
 
 // The caller's report, and how many of its rows are told; none once more were told than it has.
@@ -50,12 +57,32 @@ impl<'a> Told<'a> {
         }
     }
 
-    // A quantity of 0 makes no row.
-    pub(crate) fn push_some(&mut self, row: Row)
-        ensures { Tells self.old (some_row row.quantity row) self.new }
+    // One share of a fill: a contract trade, or a combination trade and its legs; a share of 0 makes no row.
+    pub(crate) fn push_share(&mut self, fill: &Fill<'_>, order: &Order, share: u32)
+        requires few { share ≤ 10000 }
+        requires legs { LegsFit (lent fill.now.legs) }
+        ensures { Tells self.old (some_rows share (share_rows fill.now.number fill.now.taker (lent fill.now.legs) order.now share)) self.new }
     {
-        if row.quantity != 0 {
-            self.push(row);
+        if share == 0 {
+            return;
+        }
+        match fill.legs {
+            None => self.push(trade_row(fill, order, Contracts(share))),
+            Some(legs) => {
+                self.push(combination_row(fill, order, Units(share)));
+                self.push_legs(fill, order, Units(share), legs);
+            }
+        }
+    }
+
+    // The legs of a combination trade.
+    fn push_legs(&mut self, fill: &Fill<'_>, order: &Order, traded: Units, legs: &[Leg])
+        requires few { traded.0 ≤ 10000 }
+        requires legs { SmallLegs legs.now }
+        ensures { Tells self.old (map (leg_row fill.now.number fill.now.taker order.now traded.0) legs.now) self.new }
+    {
+        for leg in legs {
+            self.push(leg_row(fill, order, traded, leg));
         }
     }
 }

@@ -1,6 +1,7 @@
 // A call cloned: of its result the type allows a lack of memory, which does not come.
 use arrayvec::ArrayVec;
-use market::call::{Call, Leg};
+use market::call::Call;
+use market::leg::Leg;
 use std::test::Fail;
 
 #[test]

@@ -1,10 +1,12 @@
-// Cases that no stored session can show: short reports, many build lines, a call cloned, and sessions served from memory.
+// Cases that no stored session can show: short reports, many build lines, many definitions, a call cloned, and sessions served from memory.
 #![tactic(auto)]
 
 #[cfg(test)]
 mod builds;
 #[cfg(test)]
 mod clones;
+#[cfg(test)]
+mod definitions;
 #[cfg(test)]
 mod memory;
 #[cfg(test)]

@@ -87,3 +87,39 @@ fn killed_in_one_row(rt: HostRuntime) -> Result<(), Fail> {
     assert_eq!(rt; report[0].buyer, 3);
     Ok(())
 }
+
+// A combination order that takes three units from its legs tells four rows; a report of three is too short, and then nothing has happened.
+#[test]
+fn three_rows(rt: HostRuntime) -> Result<(), Fail> {
+    let Ok(opening) = Gateway::build(rt.alloc(), PriceTime, b"F 2 1 1 999 999") else {
+        return Err(Fail::new("no venue is built"));
+    };
+    let mut gateway = opening.gateway;
+    let mut three = [Row::blank(); 3];
+    let lines: [(&[u8], (u32, u32)); 5] = [
+        (b"P O", (0, 0)),
+        (b"D 7 2 1 2 1 -1", (1001, 0)),
+        (b"E 7 1 S 3 105 D", (1, 0)),
+        (b"E 8 2 B 2 100 D", (2, 0)),
+        (b"E 9 2 B 4 99 D", (3, 0)),
+    ];
+    for (line, answer) in lines.iter() {
+        assert_eq!(rt; told(gateway.call(line, &mut three)), Ok(*answer));
+    }
+    assert_eq!(rt;
+        told(gateway.call(b"E 5 1001 B 5 6 D", &mut three)),
+        TOO_FEW_ROWS
+    );
+    for row in three.iter() {
+        assert_eq!(rt; row.kind, RowKind::Blank);
+    }
+    let mut four = [Row::blank(); 4];
+    assert_eq!(rt;
+        told(gateway.call(b"E 5 1001 B 5 6 D", &mut four)),
+        Ok((4, 3))
+    );
+    assert_eq!(rt; four[0].kind, RowKind::Combination);
+    assert_eq!(rt; four[0].price.0, 16);
+    assert_eq!(rt; four[3].kind, RowKind::Trade);
+    Ok(())
+}

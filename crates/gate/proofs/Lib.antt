@@ -1,2 +1,7 @@
 pub mod Tables
 pub mod Lifting
+pub mod Dividing
+pub mod Neighbours
+pub mod Numbering
+pub mod Shapes
+pub mod Defining

@@ -19,7 +19,7 @@ use Rattle.gate.specs.Conditions.{turned}
 
 -- the venue with another book
 abbrev pub with_book : View → BookState → View
-with_book v m = record { product = v.product; phase = v.phase; bands = v.bands; book = m }
+with_book v m = record { product = v.product; phase = v.phase; bands = v.bands; combinations = v.combinations; book = m }
 
 -- a condition of the table holds
 pub refused_by : {shares : List ℕ → ℕ → List ℕ} {v : View} {room : ℕ} {c : Call} {e : Refusal} {answer : Result (ℕ × ℕ) Refusal} {rows : List Row} → fault v c ≡ Some e → answer ≡ Err e → rows ≡ blank room → Follows (Does shares v c) v room answer rows v

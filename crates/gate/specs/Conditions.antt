@@ -4,11 +4,10 @@ use Rattle.std.specs.Option.{option_map}
 use Rattle.market.specs.declared.phase.Event.{Event}
 use Rattle.market.specs.declared.phase.Phase.{Phase}
 use Rattle.market.specs.declared.phase.Withdrawal.{Withdrawal}
-use Rattle.market.specs.declared.refusal.Refusal.{Refusal}
 use Rattle.market.specs.Venues.{next_phase, withdraws}
 
 -- passed where nothing is at fault, and else refused with the fault
-abbrev pub Judges : Option Refusal → Result (Unit {0}) Refusal → Type 0
+abbrev pub Judges : {E : Type 0} → Option E → Result (Unit {0}) E → Type 0
 Judges fault (Ok u) = fault ≡ None
 Judges fault (Err e) = fault ≡ Some e
 

@@ -9,10 +9,11 @@ use Rattle.book.specs.Closing.{book_state}
 use Rattle.gate.specs.declared.build_error.BuildError.{BuildError}
 use Rattle.gate.specs.declared.build_error.BuildError.TheVariants.{Refused, OutOfMemory}
 use Rattle.gate.specs.declared.venue.Venue.{Venue}
+use Rattle.gate.specs.Made.{all_legs}
 
--- a venue by its product, phase, bands and book
+-- a venue by its product, phase, bands, combinations and book
 abbrev pub view : {R : Type 0} → Venue R → View
-view v = record { product = v.product; phase = v.trading.phase; bands = v.trading.bands.items; book = book_state v.book }
+view v = record { product = v.listing.product; phase = v.listing.trading.phase; bands = v.listing.trading.bands.items; combinations = all_legs v.listing.combinations; book = book_state v.book }
 
 -- the rule by which a venue divides
 abbrev pub rule_of : {R : Type 0} → Venue R → R

@@ -1,10 +1,10 @@
 // The conditions of the table of refusals.
 ghost use Rattle.std.specs.Prelude.{◌≡◌, Bool, not, ◌+◌, ◌^◌, ◌<◌, ◌≤◌, length, Some};
 ghost use Rattle.std.specs.Fn.{FnReturnsAt};
-ghost use Rattle.market.specs.declared.product.Band.{Band as ABand};
-ghost use Rattle.market.specs.Bands.{first_broken, build_fault};
+ghost use Rattle.market.specs.Bands.{broken_band, build_fault};
+ghost use Rattle.market.specs.Tables.{unless, first_broken};
 ghost use Rattle.market.specs.declared.refusal.Refusal.TheVariants.{Participant};
-ghost use Rattle.market.specs.Venues.{between, unless, within_band};
+ghost use Rattle.market.specs.Venues.{between, within_band, within_net_band};
 ghost use Rattle.gate.specs.Conditions.{Judges};
 
 use crate::venue::MOST_INSTRUMENTS;
@@ -17,11 +17,14 @@ const LAST_PARTICIPANT: u32 = 999;
 // The highest price that a band may reach.
 const HIGHEST_PRICE: u32 = 999_999;
 
-// Refused unless the test holds.
-pub(crate) fn unless(test: bool, refusal: Refusal) -> Result<(), Refusal>
-    ensures { Judges (unless test refusal) result }
+// The highest net price; the lowest is as far below 0.
+const HIGHEST_NET: i32 = 99_999_900;
+
+// At fault unless the test holds; the fault is a refusal, or the place of a field.
+pub(crate) fn unless<E: Drop>(test: bool, fault: E) -> Result<(), E>
+    ensures { Judges (unless test fault) result }
 {
-    if test { Ok(()) } else { Err(refusal) }
+    if test { Ok(()) } else { Err(fault) }
 }
 
 // Participants are numbered 1 to 999.
@@ -41,16 +44,38 @@ pub(crate) fn within_band(band: Band, price: Price) -> bool
     (i64::from(band.low)..=i64::from(band.high)).contains(&i64::from(price.0))
 }
 
-// The first band that is broken is refused; the first of all has its field at that place.
-fn first_broken<F: Fn(&Band) -> bool>(bands: &[Band], place: u32, broken: F) -> Result<(), Refusal>
-    requires fits { place + length bands.now < 2 ^ 32 }
-    requires callable { F.IsAlwaysCallable broken }
-    ensures { (p : ABand → Bool) → ((b : ABand) (t : Bool) → FnReturnsAt F.Fn broken b t → t ≡ not (p b)) → Judges (first_broken p bands.now place) result }
+// A net price is neither below the lowest nor above the highest.
+pub(crate) fn within_net_band(price: Price) -> bool
+    ensures { result ≡ within_net_band price }
 {
-    bands
+    (-HIGHEST_NET..=HIGHEST_NET).contains(&price.0)
+}
+
+// The field of the first element that is broken is at fault; the first of all has its field at that place.
+pub(crate) fn first_broken<T, F: Fn(&T) -> bool>(
+    elements: &[T],
+    place: u32,
+    broken: F,
+) -> Result<(), u32>
+    requires fits { place + length elements.now < 2 ^ 32 }
+    requires callable { F.IsAlwaysCallable broken }
+    ensures { (p : T → Bool) → ((x : T) (t : Bool) → FnReturnsAt F.Fn broken x t → t ≡ not (p x)) → Judges (first_broken p elements.now place) result }
+{
+    elements
         .iter()
         .position(broken)
-        .map_or(Ok(()), |i| Err(Refusal::Band(place + i as u32)))
+        .map_or(Ok(()), |i| Err(place + i as u32))
+}
+
+// The field of a build line's band that is at fault.
+fn broken_band(bands: &[Band]) -> Result<(), u32>
+    requires { length bands.now ≤ MOST_INSTRUMENTS }
+    ensures { Judges (broken_band bands.now) result }
+{
+    let highs = 2 + bands.len() as u32;
+    first_broken(bands, 2, |band| band.low < 1)?;
+    first_broken(bands, highs, |band| band.high > HIGHEST_PRICE)?;
+    first_broken(bands, 2, |band| band.low > band.high)
 }
 
 // Whether a build line's bands are sound, and if not, why.
@@ -58,8 +83,5 @@ pub(crate) fn judge(bands: &[Band]) -> Result<(), Refusal>
     requires { length bands.now ≤ MOST_INSTRUMENTS }
     ensures { Judges (build_fault bands.now) result }
 {
-    let highs = 2 + bands.len() as u32;
-    first_broken(bands, 2, |band| band.low < 1)?;
-    first_broken(bands, highs, |band| band.high > HIGHEST_PRICE)?;
-    first_broken(bands, 2, |band| band.low > band.high)
+    broken_band(bands).map_err(Refusal::Band)
 }

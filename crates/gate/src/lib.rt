@@ -2,6 +2,11 @@
 #![tactic(auto)]
 
 pub mod build_error;
+mod combinations;
+mod entry;
 mod fault;
+mod legs;
+mod listing;
+mod ratios;
 mod trading;
 pub mod venue;

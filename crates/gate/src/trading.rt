@@ -1,10 +1,14 @@
 // The phase of a venue and the price bands of its instruments.
-ghost use Rattle.std.specs.Prelude.{◌≡◌};
-ghost use Rattle.market.specs.Venues.{trading, serving, band_of};
-ghost use Rattle.gate.specs.Conditions.{turned};
+ghost use Rattle.std.specs.Prelude.{◌≡◌, ◌≤◌, length};
+ghost use Rattle.market.specs.Tables.{first_broken};
+ghost use Rattle.market.specs.Venues.{trading, serving, band_of, known};
+ghost use Rattle.gate.specs.Conditions.{turned, Judges};
 
+use crate::fault::first_broken;
+use crate::legs::FIRST_LEG_PLACE;
 use crate::venue::MOST_INSTRUMENTS;
 use arrayvec::ArrayVec;
+use market::leg::Leg;
 use market::phase::{Event, Phase, Withdrawal};
 use market::product::Band;
 
@@ -49,5 +53,20 @@ impl Trading {
     {
         let i = instrument.checked_sub(1)?;
         self.bands.get(i as usize).copied()
+    }
+
+    // There is such an instrument.
+    pub(crate) fn knows(&self, instrument: u32) -> bool
+        ensures { result ≡ known (band_of self.now.bands.items instrument) }
+    {
+        self.band(instrument).is_some()
+    }
+
+    // The field of the first leg whose instrument does not exist is at fault.
+    pub(crate) fn check_known(&self, legs: &[Leg]) -> Result<(), u32>
+        requires { length legs.now ≤ 10 }
+        ensures { Judges (first_broken (λ l. known (band_of self.now.bands.items l.instrument)) legs.now 3) result }
+    {
+        first_broken(legs, FIRST_LEG_PLACE, |leg| !self.knows(leg.instrument))
     }
 }

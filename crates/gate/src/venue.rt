@@ -1,7 +1,6 @@
-// A venue: its product, its phase and bands, its book, and the rule that divides there.
-use crate::trading::Trading;
+// A venue: what it lists, its book, and the rule that divides there.
+use crate::listing::Listing;
 use book::book::Book;
-use market::product::Product;
 use rules::rule::AllocationRule;
 
 mod calls;
@@ -14,6 +13,5 @@ pub const MOST_INSTRUMENTS: usize = 64;
 pub struct Venue<R: AllocationRule> {
     book: Book,
     rule: R,
-    product: Product,
-    trading: Trading,
+    listing: Listing,
 }

@@ -1,17 +1,22 @@
 -- A line that is checked and a line that is called are refused alike.
-use Rattle.std.proofs.Common.{◌≡◌, ℕ, Bool, true, false, not, eqb, ltb, List, [], ◌∷◌, length, Some, None, Err, Option, Result, refl, ap, ◌∙◌, subst, arith}
+use Rattle.std.proofs.Common.{◌≡◌, ℕ, Bool, true, false, not, ◌||◌, eqb, ltb, List, [], ◌∷◌, length, Some, None, Err, Option, Result, refl, ap, ◌∙◌, subst, arith}
+use Rattle.std.specs.List.{list_any}
+use Rattle.std.specs.Option.{option_map}
 use Rattle.std.proofs.lemmas.Bool.{cond_both}
 use Rattle.std.proofs.lemmas.Bool.Decides.{nat_tests}
 use Rattle.market.specs.declared.arrival.Arrival.{Arrival}
 use Rattle.market.specs.declared.call.Call.{Call}
 use Rattle.market.specs.declared.call.Call.TheVariants.{Enter, Amend, Cancel, Quote, Define, Switch}
+use Rattle.market.specs.declared.leg.Leg.{Leg}
 use Rattle.market.specs.declared.phase.Phase.{Phase}
 use Rattle.market.specs.declared.refusal.Refusal.{Refusal}
 use Rattle.market.specs.declared.refusal.Refusal.TheVariants as refusal
 use Rattle.market.specs.declared.row.Row.{Row}
-use Rattle.market.specs.BookCalls.{BookState, Enters, Enters.no_number, Enters.whole, Enters.rests, Enters.no_room, Enters.cut, Enters.killed, Cancels, Cancels.taken_out}
+use Rattle.market.specs.BookCalls.{BookState, Enters, Enters.no_number, Enters.no_room, Enters.settled, Cancels, Cancels.taken_out}
 use Rattle.market.specs.Endings.{Ending, refused, done, Outcome, close, Follows}
-use Rattle.market.specs.Venues.{View, between, unless, topmost, trading, serving, band_of, known, within_band, owned, next_phase, switch_fault, fault, at_book, Does, Does.at_fault, Does.enters, Does.cancels, Does.switches, Takes, Takes.unread, Takes.read}
+use Rattle.market.specs.Combinations.{normal, same_legs, broken_leg}
+use Rattle.market.specs.Tables.{unless, topmost, first_broken}
+use Rattle.market.specs.Venues.{View, between, trading, serving, band_of, known, tradable, price_fits, owned, next_phase, switch_fault, fault, at_book, Does, Does.at_fault, Does.enters, Does.cancels, Does.finds, Does.makes, Does.switches, Takes, Takes.unread, Takes.read}
 use Rattle.line.specs.CallLines.{call_form}
 use Rattle.line.specs.Gateways.{by_line}
 use Rattle.line.specs.Verdicts.{line_call, check_code}
@@ -37,6 +42,14 @@ enter_elsewhere true true true false e = refl
 enter_elsewhere true true true true false = refl
 enter_elsewhere true true true true true = tt
 
+define_elsewhere : (a b c : Bool) (d e : Option ℕ) → Elsewhere (topmost (topmost (unless a refusal.Phase ∷ unless b refusal.Participant ∷ option_map refusal.Unknown d ∷ option_map refusal.Legs e ∷ []) ∷ unless c refusal.CombinationsSpent ∷ []))
+define_elsewhere false b c d e = refl
+define_elsewhere true false c d e = refl
+define_elsewhere true true c (Some p) e = refl
+define_elsewhere true true c None (Some p) = refl
+define_elsewhere true true false None None = refl
+define_elsewhere true true true None None = tt
+
 cancel_elsewhere : (a b c : Bool) → Elsewhere (topmost (unless a refusal.Phase ∷ unless b refusal.Participant ∷ unless c refusal.Order ∷ []))
 cancel_elsewhere false b c = refl
 cancel_elsewhere true false c = refl
@@ -48,12 +61,12 @@ switch_elsewhere None = refl
 switch_elsewhere (Some phase) = tt
 
 fault_elsewhere : (v : View) (c : Call) → Elsewhere (fault v c)
-fault_elsewhere v (Enter p i s q r d) = enter_elsewhere (trading v.phase) (between 1 999 p) (known (band_of v.bands i)) (between 1 10000 q) (within_band (band_of v.bands i) r)
+fault_elsewhere v (Enter p i s q r d) = enter_elsewhere (trading v.phase) (between 1 999 p) (tradable v i) (between 1 10000 q) (price_fits v i r)
 fault_elsewhere v (Cancel p n) = cancel_elsewhere (serving v.phase) (between 1 999 p) (owned p n v.book.orders)
 fault_elsewhere v (Switch w) = switch_elsewhere (next_phase v.phase w)
 fault_elsewhere v (Amend p n q r) = refl
 fault_elsewhere v (Quote p i q r k t) = refl
-fault_elsewhere v (Define p legs) = refl
+fault_elsewhere v (Define p legs) = define_elsewhere (trading v.phase) (between 1 999 p) (ltb (length v.combinations) 32 || list_any (same_legs (normal legs.items)) v.combinations) (first_broken (λ l. known (band_of v.bands l.instrument)) legs.items 3) (broken_leg v.product legs.items)
 
 -- ---- what the book refuses
 
@@ -71,18 +84,17 @@ close_elsewhere v room (refused e) h = h
 close_elsewhere v room (done e) h = cond_both (ltb room (length e.rows)) _ _ (λ (o : Outcome View). by_line o.answer ≡ false) (λ t. refl) (λ t. refl)
 
 module _ (shares : List ℕ → ℕ → List ℕ) where
-  enters_elsewhere : (m : BookState) (a : Arrival) (e : Ending BookState) → Enters shares m a e → EndsElsewhere e
-  enters_elsewhere m a _ (no_number h) = refl
-  enters_elsewhere m a _ (whole h match) = tt
-  enters_elsewhere m a _ (rests h day match some room) = tt
-  enters_elsewhere m a _ (no_room h day match some full) = refl
-  enters_elsewhere m a _ (cut h immediate match some) = tt
-  enters_elsewhere m a _ (killed h kill match some) = tt
+  enters_elsewhere : (cs : List (List Leg)) (m : BookState) (a : Arrival) (e : Ending BookState) → Enters shares cs m a e → EndsElsewhere e
+  enters_elsewhere cs m a _ (no_number h) = refl
+  enters_elsewhere cs m a _ (no_room h day match some full) = refl
+  enters_elsewhere cs m a _ (settled h s round) = tt
 
   does_elsewhere : (v : View) (c : Call) (e : Ending View) → Does shares v c e → EndsElsewhere e
   does_elsewhere v c _ (at_fault _ e h) = subst Elsewhere h (fault_elsewhere v c)
-  does_elsewhere v _ _ (enters p i s q r d e h m) = at_book_elsewhere v e (enters_elsewhere v.book _ e m)
+  does_elsewhere v _ _ (enters p i s q r d e h m) = at_book_elsewhere v e (enters_elsewhere v.combinations v.book _ e m)
   does_elsewhere v _ _ (cancels p n e h m) = at_book_elsewhere v e (cancels_elsewhere v.book p n e m)
+  does_elsewhere v _ _ (finds p legs c h k) = tt
+  does_elsewhere v _ _ (makes p legs h k) = tt
   does_elsewhere v _ _ (switches w phase h) = tt
 
   takes_checked : (v : View) (room : ℕ) (asked : Result Call Refusal) (e : Ending View) → LineRefusal asked → Takes shares v asked e → by_line (close v room e).answer ≡ not (eqb (check_code asked) 0)

@@ -4,7 +4,7 @@ use Rattle.market.specs.declared.call.Call.{Call}
 use Rattle.market.specs.declared.call.Call.TheVariants.{Enter, Amend, Cancel, Quote, Define, Switch}
 use Rattle.market.specs.declared.call.Duration.{Duration}
 use Rattle.market.specs.declared.call.Duration.TheVariants.{Day, Immediate, FillOrKill}
-use Rattle.market.specs.declared.call.Leg.{Leg}
+use Rattle.market.specs.declared.leg.Leg.{Leg}
 use Rattle.market.specs.declared.phase.Event.{Event}
 use Rattle.market.specs.declared.phase.Event.TheVariants.{Open, Halt, Resume, Close}
 use Rattle.market.specs.declared.price.Price.{Price}

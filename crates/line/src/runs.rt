@@ -11,7 +11,7 @@ ghost use Rattle.line.specs.Fills.{Filled, FilledTwice};
 
 use crate::cursor::Cursor;
 use arrayvec::ArrayVec;
-use market::call::Leg;
+use market::leg::Leg;
 use market::product::Band;
 use market::refusal::Refusal;
 

@@ -12,10 +12,10 @@ use Rattle.market.specs.declared.order.Order.{Order}
 use Rattle.market.specs.declared.price.Price.{Price}
 use Rattle.market.specs.declared.side.Side.{Side}
 use Rattle.market.specs.Levels.{in_level, level, quantities, Best, after_fill}
-use Rattle.market.specs.Matching.{facing, given, divided}
-use Rattle.market.specs.Orders.{lot_book, stands, quantity_of}
+use Rattle.market.specs.Fills.{facing, given, divided}
+use Rattle.market.specs.Orders.{stands, quantity_of}
 use Rattle.market.specs.Prices.{opposite}
-use Rattle.market.proofs.Fills.{all_after_fill, length-kept_le, length-after_fill}
+use Rattle.market.proofs.Thinning.{length-kept_le, Thins, fill_thins}
 use Rattle.market.proofs.Sizes.{lot_size-sized, Lasting}
 
 -- a book that the rules are made for: at most 256 orders of at most 10,000 each
@@ -26,11 +26,14 @@ pub record Bounded (os : List Order) : Type 0 where
 pub small_lasts : Lasting (λ o. quantity_of o ≤ 10000)
 small_lasts o k h = omega (arith, lot_size-sized o.lot (quantity_of o - k))
 
-pub bounded_after_fill : (test : Order → Bool) (os : List Order) (ks : List ℕ) → Bounded os → Bounded (after_fill test os ks)
-bounded_after_fill test os ks b = record {
-  small = all_after_fill (λ o. quantity_of o ≤ 10000) small_lasts test os ks b.small;
-  few = omega (arith, length-after_fill test os ks, b.few);
+pub bounded_thins : {os os' : List Order} → Thins os os' → Bounded os → Bounded os'
+bounded_thins thins b = record {
+  small = thins.keeps (λ o. quantity_of o ≤ 10000) small_lasts b.small;
+  few = omega (arith, thins.fewer, b.few);
 }
+
+pub bounded_after_fill : (test : Order → Bool) (os : List Order) (ks : List ℕ) → Bounded os → Bounded (after_fill test os ks)
+bounded_after_fill test os ks = bounded_thins (fill_thins test os ks)
 
 -- an order of the price stands in its level
 pub in_level_at : (b : BookId) (s : Side) (p : Price) (o : Order) → stands b s o ≡ true → o.price ≡ p → in_level b s p o ≡ true
@@ -42,26 +45,26 @@ level_some b s p os h =
     let one = rw (h.3, in_level_at b s p h.1 h.4.0 h.4.1) at (get_or-le-sum_by (λ o. cond (in_level b s p o) 1 0) os h.0 h.1 h.2) in
     omega (arith, one, length-filter (in_level b s p) os)
 
-pub asked : (o : Order) (p : Price) (os : List Order) (q : ℕ) → Bounded os → Best (lot_book o.lot) o.side os p →
-    Domain (quantities (facing o p os)) (given o p os q)
-asked o p os q b best =
-    let test : Order → Bool = in_level (lot_book o.lot) (opposite o.side) p in
-    let small = All-filter test (λ x. quantity_of x ≤ 10000) os b.small in
-    let as_many = length-map (facing o p os) quantity_of in
+pub asked : (b : BookId) (s : Side) (p : Price) (os : List Order) (q : ℕ) → Bounded os → Best b s os p →
+    Domain (quantities (facing b s p os)) (given b s p os q)
+asked b s p os q bounded best =
+    let test : Order → Bool = in_level b (opposite s) p in
+    let small = All-filter test (λ x. quantity_of x ≤ 10000) os bounded.small in
+    let as_many = length-map (facing b s p os) quantity_of in
     let fewer = length-kept_le test os in
     record {
-      some = omega (arith, level_some (lot_book o.lot) (opposite o.side) p os best.there);
-      few = omega (arith, b.few);
-      small = All-map (λ q. q ≤ 10000) quantity_of (facing o p os) small;
-      bounded = omega (arith, b.few, is_sum_by (λ xs. total (quantities xs)) quantity_of refl (λ _ _. refl) (facing o p os), sum_by-le quantity_of 10000 (facing o p os) small);
+      some = omega (arith, level_some b (opposite s) p os best.there);
+      few = omega (arith, bounded.few);
+      small = All-map (λ q. q ≤ 10000) quantity_of (facing b s p os) small;
+      bounded = omega (arith, bounded.few, is_sum_by (λ xs. total (quantities xs)) quantity_of refl (λ _ _. refl) (facing b s p os), sum_by-le quantity_of 10000 (facing b s p os) small);
     }
 
 module _ (shares : List ℕ → ℕ → List ℕ) (laws : Laws shares) where
-  pub shares_below : (o : Order) (p : Price) (os : List Order) (q : ℕ) → Bounded os → Best (lot_book o.lot) o.side os p →
-      Below (divided shares o p os q) (quantities (facing o p os))
-  shares_below o p os q b best =
-      laws.within _ _ (asked o p os q b best)
+  pub shares_below : (b : BookId) (s : Side) (p : Price) (os : List Order) (q : ℕ) → Bounded os → Best b s os p →
+      Below (divided shares b s p os q) (quantities (facing b s p os))
+  shares_below b s p os q bounded best =
+      laws.within _ _ (asked b s p os q bounded best)
 
-  pub shares_total : (o : Order) (p : Price) (os : List Order) (q : ℕ) → Bounded os → Best (lot_book o.lot) o.side os p →
-      total (divided shares o p os q) ≡ given o p os q
-  shares_total o p os q b best = omega (arith, laws.sum _ _ (asked o p os q b best))
+  pub shares_total : (b : BookId) (s : Side) (p : Price) (os : List Order) (q : ℕ) → Bounded os → Best b s os p →
+      total (divided shares b s p os q) ≡ given b s p os q
+  shares_total b s p os q bounded best = omega (arith, laws.sum _ _ (asked b s p os q bounded best))

@@ -1,33 +1,24 @@
 -- No resting buy meets a resting sell: what goes, and what rests after its match, leaves it so.
-use Rattle.std.proofs.Common.{◌≡◌, ◌-◌, true, false, List, [], ◌∷◌, ◌++◌, get_or, sym, refl, ◌∙◌, arith}
+use Rattle.std.proofs.Common.{◌≡◌, ◌-◌, true, false, List, [], ◌∷◌, ◌++◌, get_or, sym, ◌∙◌, arith}
 use Rattle.std.specs.List.{All}
 use Rattle.std.proofs.lemmas.Int.{ints}
-use Rattle.std.proofs.lemmas.Bool.{eq-eqb}
 use Rattle.std.proofs.lemmas.List.Elements.{All-push}
-use Rattle.market.specs.declared.book_id.BookId.{BookId}
-use Rattle.market.specs.declared.book_id.BookId.TheVariants.{Instrument, Combination}
 use Rattle.market.specs.declared.order.Order.{Order}
 use Rattle.market.specs.Levels.{NoneWithin}
-use Rattle.market.specs.Orders.{lot_book, quantity_of, same_book, stands}
+use Rattle.market.specs.Orders.{lot_book, quantity_of, stands}
 use Rattle.market.specs.Prices.{opposite, good}
 use Rattle.market.specs.Sessions.{Apart}
-use Rattle.market.proofs.Sizes.{lot_book-sized, Lasting}
+use Rattle.market.proofs.LevelSums.{same_book_refl}
+use Rattle.market.proofs.Sizes.{lot_book-sized}
+use Rattle.market.proofs.Thinning.{Thins}
 
 abbrev pub Uncrossed : List Order → Type 0
 Uncrossed os = All (λ x. All (Apart x) os) os
 
--- each order of os' is one of os, but for its quantity
-abbrev pub Thins : List Order → List Order → Type 1
-Thins os os' = (P : Order → Type 0) → Lasting P → All P os → All P os'
-
-pub uncrossed_thins : (os os' : List Order) → Thins os os' → Uncrossed os → Uncrossed os'
-uncrossed_thins os os' thins u =
-    thins (λ x. All (Apart x) os') (λ x k a i y at e. a i y at (sym (lot_book-sized x.lot (quantity_of x - k)) ∙ e))
-    (λ i x at. thins (Apart (get_or os i x)) (λ y k h e. h (e ∙ lot_book-sized y.lot (quantity_of y - k))) (u i x at))
-
-same_book_refl : (b : BookId) → same_book b b ≡ true
-same_book_refl (Instrument i) = eq-eqb i i refl
-same_book_refl (Combination c) = eq-eqb c c refl
+pub uncrossed_thins : {os os' : List Order} → Thins os os' → Uncrossed os → Uncrossed os'
+uncrossed_thins {os} {os'} thins u =
+    thins.keeps (λ x. All (Apart x) os') (λ x k a i y at e. a i y at (sym (lot_book-sized x.lot (quantity_of x - k)) ∙ e))
+    (λ i x at. thins.keeps (Apart (get_or os i x)) (λ y k h e. h (e ∙ lot_book-sized y.lot (quantity_of y - k))) (u i x at))
 
 -- y is no order that o could trade with
 abbrev Clear : Order → Order → Type 0

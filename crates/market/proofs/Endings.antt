@@ -1,61 +1,78 @@
 -- The rules allow a message at most one ending.
-use Rattle.std.proofs.Common.{◌≡◌, ℕ, ◌<◌, ◌≤◌, Bool, true, false, cond, eqb, ltb, List, [], ◌∷◌, ◌++◌, length, sym, refl, ap, ◌∙◌, arith}
+use Rattle.std.proofs.Common.{◌≡◌, ℕ, ◌<◌, ◌≤◌, Bool, true, false, List, [], ◌∷◌, ◌++◌, length, inl, inr, refl, ap, arith}
 use Rattle.std.specs.List.{All}
-use Rattle.std.proofs.lemmas.Bool.{lt-ltb, le-ltb, ne_eqb}
+use Rattle.std.proofs.lemmas.Bool.{cases_lt}
 use Rattle.std.proofs.lemmas.List.Elements.{All-head, All-tail}
 use Rattle.market.specs.declared.arrival.Arrival.{Arrival}
 use Rattle.market.specs.declared.call.Call.{Call}
-use Rattle.market.specs.declared.call.Duration.{Duration}
-use Rattle.market.specs.declared.call.Duration.TheVariants.{Day, Immediate, FillOrKill}
+use Rattle.market.specs.declared.call.Duration.TheVariants.{Day}
+use Rattle.market.specs.declared.leg.Leg.{Leg}
 use Rattle.market.specs.declared.order.Order.{Order}
-use Rattle.market.specs.declared.refusal.Refusal.TheVariants.{NumbersSpent, BookFull}
 use Rattle.market.specs.declared.row.Row.{Row}
-use Rattle.market.specs.BookCalls.{BookState, entered, Enters, Enters.no_number, Enters.whole, Enters.rests, Enters.no_room, Enters.cut, Enters.killed, Cancels, Cancels.taken_out}
-use Rattle.market.specs.Endings.{Ending, refused}
-use Rattle.market.specs.Matching.{Match}
-use Rattle.market.specs.Orders.{sized, arriving, own}
-use Rattle.market.specs.Rows.{cancel_row}
+use Rattle.market.specs.BookCalls.{BookState, Matches, Settles, Settles.whole, Settles.rests, Settles.cut, Settles.killed, Enters, Enters.no_number, Enters.no_room, Enters.settled, Cancels, Cancels.taken_out}
+use Rattle.market.specs.Combinations.{FirstMade}
+use Rattle.market.specs.Endings.{Ending}
+use Rattle.market.specs.Orders.{lot_book, arriving, own}
+use Rattle.market.specs.Round.{legs_of}
 use Rattle.market.specs.Unique.{RulesDetermine}
-use Rattle.market.specs.Venues.{View, at_book, Does, Does.at_fault, Does.enters, Does.cancels, Does.switches, Takes.unread, Takes.read}
-use Rattle.market.proofs.Unique.{match_unique}
+use Rattle.market.specs.Venues.{View, at_book, defined, Does, Does.at_fault, Does.enters, Does.cancels, Does.finds, Does.makes, Does.switches, Takes.unread, Takes.read}
+use Rattle.market.proofs.Unique.{Same, match_unique}
+use Rattle.market.proofs.UniqueRound.{round_unique}
 
 -- ---- enter
 
--- what becomes of an order with something open
-abbrev remains : BookState → Arrival → List Row → ℕ → List Order → Duration → Ending BookState
-remains m a rows q os Day = cond (ltb (length os) 256) (entered m a.quantity.0 q rows (os ++ sized (arriving a m.next) q ∷ [])) (refused BookFull)
-remains m a rows q os Immediate = entered m a.quantity.0 q (rows ++ cancel_row (sized (arriving a m.next) q) ∷ []) os
-remains m a rows q os FillOrKill = entered m a.quantity.0 a.quantity.0 (cancel_row (arriving a m.next) ∷ []) m.orders
+module _ (shares : List ℕ → ℕ → List ℕ) (cs : List (List Leg)) (m : BookState) (a : Arrival) where
+  same_match : {rows : List Row} {f q : ℕ} {os : List Order} → Matches shares cs m a rows f q os →
+      {rows₂ : List Row} {f₂ q₂ : ℕ} {os₂ : List Order} → Matches shares cs m a rows₂ f₂ q₂ os₂ → Same rows rows₂ f f₂ q q₂ os os₂
+  same_match match other = match_unique shares (legs_of cs (lot_book a.lot)) (arriving a m.next) match other
 
--- what its match comes to
-abbrev settled : BookState → Arrival → List Row → ℕ → List Order → Ending BookState
-settled m a rows q os = cond (eqb q 0) (entered m a.quantity.0 0 rows os) (remains m a rows q os a.duration)
+  -- an order that trades whole leaves nothing open
+  none_left : {rows : List Row} {f : ℕ} {os : List Order} → Matches shares cs m a rows f 0 os →
+      {rows₂ : List Row} {f₂ q₂ : ℕ} {os₂ : List Order} → Matches shares cs m a rows₂ f₂ q₂ os₂ → 0 < q₂ → ⊥
+  none_left match other some = let s = same_match match other in omega arith
 
-module _ (shares : List ℕ → ℕ → List ℕ) (m : BookState) (a : Arrival) where
-  -- an arrival by its match
-  data Settles : Ending BookState → Type 0 where
-    spent : {e : Ending BookState} → 99999 < m.next → e ≡ refused NumbersSpent → Settles e
-    matched : {e : Ending BookState} {rows : List Row} {f q : ℕ} {os : List Order} → m.next ≤ 99999 →
-        Match shares (arriving a m.next) 1 a.quantity.0 m.orders rows f q os → e ≡ settled m a rows q os → Settles e
+  settles_unique : {rows : List Row} {f q : ℕ} {os : List Order} → Settles shares cs m a rows f q os →
+      {rows₂ : List Row} {f₂ q₂ : ℕ} {os₂ : List Order} → Settles shares cs m a rows₂ f₂ q₂ os₂ → Same rows rows₂ f f₂ q q₂ os os₂
+  settles_unique (whole match) (whole match') = same_match match match'
+  settles_unique (whole match) (rests day match' some room) = absurd (none_left match match' some)
+  settles_unique (whole match) (cut immediate match' some) = absurd (none_left match match' some)
+  settles_unique (whole match) (killed kill match' some) = absurd (none_left match match' some)
+  settles_unique (rests day match some room) (whole match') = absurd (none_left match' match some)
+  settles_unique (rests day match some room) (rests day' match' some' room') =
+      let s = same_match match match' in record { rows_are = s.rows_are; fill_is = s.fill_is; left_is = s.left_is; book_is = cc (s.book_is, s.left_is) }
+  settles_unique (rests day match some room) (cut immediate match' some') = cc
+  settles_unique (rests day match some room) (killed kill match' some') = cc
+  settles_unique (cut immediate match some) (whole match') = absurd (none_left match' match some)
+  settles_unique (cut immediate match some) (rests day match' some' room') = cc
+  settles_unique (cut immediate match some) (cut immediate' match' some') =
+      let s = same_match match match' in record { rows_are = cc (s.rows_are, s.left_is); fill_is = s.fill_is; left_is = s.left_is; book_is = s.book_is }
+  settles_unique (cut immediate match some) (killed kill match' some') = cc
+  settles_unique (killed kill match some) (whole match') = absurd (none_left match' match some)
+  settles_unique (killed kill match some) (rests day match' some' room') = cc
+  settles_unique (killed kill match some) (cut immediate match' some') = cc
+  settles_unique (killed kill match some) (killed kill' match' some') = search
 
-  settles : {e : Ending BookState} → Enters shares m a e → Settles e
-  settles (no_number h) = spent h refl
-  settles (whole h match) = matched h match refl
-  settles (rests {q = q} {os} h day match some room) = matched h match (cc (day, ne_eqb q 0 (λ z. omega arith), lt-ltb (length os) 256 room))
-  settles (no_room {q = q} {os} h day match some full) = matched h match (cc (day, ne_eqb q 0 (λ z. omega arith), le-ltb (length os) 256 full))
-  settles (cut {q = q} h immediate match some) = matched h match (cc (immediate, ne_eqb q 0 (λ z. omega arith)))
-  settles (killed {q = q} h kill match some) = matched h match (cc (kill, ne_eqb q 0 (λ z. omega arith)))
+  -- an order that settles finds room where it is to rest
+  room_found : {rows : List Row} {f q : ℕ} {os : List Order} → Settles shares cs m a rows f q os → a.duration ≡ Day →
+      {rows₂ : List Row} {f₂ q₂ : ℕ} {os₂ : List Order} → Matches shares cs m a rows₂ f₂ q₂ os₂ → 0 < q₂ → 256 ≤ length os₂ → ⊥
+  room_found (whole match) day other some' full = none_left match other some'
+  room_found (rests day match some room) day' other some' full = let s = same_match match other in omega (arith, ap length s.book_is)
+  room_found (cut immediate match some) day other some' full = cc
+  room_found (killed kill match some) day other some' full = cc
 
-  settles_unique : {e e' : Ending BookState} → Settles e → Settles e' → e ≡ e'
-  settles_unique (spent h is) (spent h' is') = is ∙ sym is'
-  settles_unique (spent h is) (matched h' match is') = absurd (omega arith)
-  settles_unique (matched h match is) (spent h' is') = absurd (omega arith)
-  settles_unique (matched h match is) (matched h' match' is') =
-      let s = match_unique shares (arriving a m.next) match match' in
-      cc (is, is', s.rows_are, s.left_is, s.book_is)
-
-  pub enters_unique : {e e' : Ending BookState} → Enters shares m a e → Enters shares m a e' → e ≡ e'
-  enters_unique n n' = settles_unique (settles n) (settles n')
+  pub enters_unique : {e e' : Ending BookState} → Enters shares cs m a e → Enters shares cs m a e' → e ≡ e'
+  enters_unique (no_number h) (no_number h') = refl
+  enters_unique (no_number h) (no_room h' day match some full) = absurd (omega arith)
+  enters_unique (no_number h) (settled h' s round) = absurd (omega arith)
+  enters_unique (no_room h day match some full) (no_number h') = absurd (omega arith)
+  enters_unique (no_room h day match some full) (no_room h' day' match' some' full') = refl
+  enters_unique (no_room h day match some full) (settled h' s round) = absurd (room_found s day match some full)
+  enters_unique (settled h s round) (no_number h') = absurd (omega arith)
+  enters_unique (settled h s round) (no_room h' day match some full) = absurd (room_found s day match some full)
+  enters_unique (settled h s round) (settled h' s' round') =
+      let same = settles_unique s s' in
+      let r = round_unique shares cs round (rw (← same.fill_is, ← same.book_is) at round') in
+      cc (same.rows_are, same.left_is, r.rows_are, r.book_is)
 
 -- ---- cancel
 
@@ -72,6 +89,14 @@ cancels_unique m p n (taken_out xs o ys is others mine) (taken_out xs' o' ys' is
     let r = first_unique (own p n) xs o ys xs' o' ys' (cc) others others' mine mine' in
     cc (r.0, r.1)
 
+-- ---- define
+
+first_made_unique : (cs : List (List Leg)) (legs : List Leg) (b c : ℕ) → FirstMade cs legs b → FirstMade cs legs c → b ≡ c
+first_made_unique cs legs b c h k = elim (cases_lt b c) [
+  | inl lower ↦ absurd (k.first b lower h.there)
+  | inr other ↦ elim (cases_lt c b) [ inl higher ↦ absurd (h.first c higher k.there) | inr same ↦ omega arith ]
+]
+
 -- ---- any call
 
 module _ (shares : List ℕ → ℕ → List ℕ) (v : View) where
@@ -79,11 +104,19 @@ module _ (shares : List ℕ → ℕ → List ℕ) (v : View) where
   does_unique _ (at_fault c e h) (at_fault _ e' h') = cc
   does_unique _ (at_fault _ e h) (enters p i s q r d e' h' n) = cc
   does_unique _ (at_fault _ e h) (cancels p n e' h' k) = cc
+  does_unique _ (at_fault _ e h) (finds p legs c h' k) = cc
+  does_unique _ (at_fault _ e h) (makes p legs h' k) = cc
   does_unique _ (at_fault _ e h) (switches w phase h') = cc
   does_unique _ (enters p i s q r d e h n) (at_fault _ e' h') = cc
-  does_unique _ (enters p i s q r d e h n) (enters _ _ _ _ _ _ e' h' n') = ap (at_book v) (enters_unique shares v.book _ n n')
+  does_unique _ (enters p i s q r d e h n) (enters _ _ _ _ _ _ e' h' n') = ap (at_book v) (enters_unique shares v.combinations v.book _ n n')
   does_unique _ (cancels p n e h k) (at_fault _ e' h') = cc
   does_unique _ (cancels p n e h k) (cancels _ _ e' h' k') = ap (at_book v) (cancels_unique v.book p n k k')
+  does_unique _ (finds p legs c h k) (at_fault _ e' h') = cc
+  does_unique _ (finds p legs c h k) (finds _ _ c' h' k') = ap (λ n. defined v legs.items n v.combinations) (first_made_unique _ _ c c' k k')
+  does_unique _ (finds p legs c h k) (makes _ _ h' k') = absurd (k' c k.there)
+  does_unique _ (makes p legs h k) (at_fault _ e' h') = cc
+  does_unique _ (makes p legs h k) (finds _ _ c' h' k') = absurd (k c' k'.there)
+  does_unique _ (makes p legs h k) (makes _ _ h' k') = refl
   does_unique _ (switches w phase h) (at_fault _ e' h') = cc
   does_unique _ (switches w phase h) (switches _ phase' h') = cc
 

@@ -1,16 +1,17 @@
 -- Sums over lists: what rows and a book come to for one order.
-use Rattle.std.proofs.Common.{◌≡◌, ℕ, ◌+◌, ◌<◌, ◌≤◌, Bool, cond, eqb, ◌&&◌, List, [], ◌∷◌, arith}
+use Rattle.std.proofs.Common.{◌≡◌, ℕ, ◌+◌, ◌<◌, ◌≤◌, Bool, true, false, cond, eqb, ◌&&◌, List, [], ◌∷◌, ◌++◌, arith}
 use Rattle.std.specs.List.{All, sum_by}
 use Rattle.std.proofs.lemmas.Bool.Decides.{nat_tests}
 use Rattle.std.proofs.lemmas.List.Elements.{All-nil, All-cons, All-weaker}
 use Rattle.std.proofs.lemmas.List.Folds.{sum_by-replicate}
-use Rattle.std.proofs.lemmas.List.Sums.{sum_by-le, sum_by-cons}
+use Rattle.std.proofs.lemmas.List.Sums.{sum_by-le, sum_by-cons, sum_by-append, sum_by_push}
 use Rattle.market.specs.declared.order.Order.{Order}
 use Rattle.market.specs.declared.row.Row.{Row}
 use Rattle.market.specs.declared.row.RowKind.{RowKind}
+use Rattle.market.specs.declared.row.RowKind.TheVariants as kind
 use Rattle.market.specs.Orders.{quantity_of}
 use Rattle.market.specs.Rows.{blank}
-use Rattle.market.specs.Sessions.{Turn, is_trade, is_cancellation, names, counted, over, resting}
+use Rattle.market.specs.Sessions.{Turn, trades, is_cancellation, names, counted, over, resting}
 
 -- where every element counts for nothing, so does the sum
 sum_by-nothing : {X : Type 0} (P : X → Type 0) (f : X → ℕ) → ((x : X) → P x → f x ≤ 0) → (xs : List X) → All P xs → sum_by f xs ≡ 0
@@ -22,16 +23,42 @@ counted-cons is n row rows = sum_by-cons _ row rows
 pub resting-cons : (n : ℕ) (o : Order) (os : List Order) → resting n (o ∷ os) ≡ cond (eqb o.number n) (quantity_of o) 0 + resting n os
 resting-cons n o os = sum_by-cons _ o os
 
--- what rows take from the order n, traded or cancelled
-abbrev pub gone : ℕ → List Row → ℕ
-gone n rows = counted is_trade n rows + counted is_cancellation n rows
+pub resting-push : (n : ℕ) (os : List Order) (o : Order) → resting n (os ++ o ∷ []) ≡ resting n os + cond (eqb o.number n) (quantity_of o) 0
+resting-push n os o = sum_by_push _ os o
 
-pub gone-blank : (n k : ℕ) → gone n (blank k) ≡ 0
-gone-blank n k = omega (arith, sum_by-replicate {X = Row})
+-- the rows of legs trade no order
+pub trades_no_leg : (i : ℕ) → trades i kind.Leg ≡ false
+trades_no_leg i = grind (arith, nat_tests)
+
+-- an order is traded by contract trades or by combination trades
+pub trades_one : (i : ℕ) → trades i kind.Combination ≡ true → trades i kind.Trade ≡ false
+trades_one i h = grind (arith, nat_tests)
+
+-- what rows take from the order n in the book i, traded or cancelled
+abbrev pub gone : ℕ → ℕ → List Row → ℕ
+gone i n rows = counted (trades i) n rows + counted is_cancellation n rows
+
+pub gone-append : (i n : ℕ) (rows rows' : List Row) → gone i n (rows ++ rows') ≡ gone i n rows + gone i n rows'
+gone-append i n rows rows' = omega (arith, sum_by-append {X = Row})
+
+pub gone-blank : (i n k : ℕ) → gone i n (blank k) ≡ 0
+gone-blank i n k = grind (arith, sum_by-replicate {X = Row}, nat_tests)
 
 -- buyer and seller are below m
 abbrev pub NumbersBelow : ℕ → Row → Type 0
 NumbersBelow m row = (row.buyer < m) × (row.seller < m)
+
+-- a row of a trade, whose numbers are below m
+pub record Plain (m : ℕ) (row : Row) : Type 0 where
+  pub below : NumbersBelow m row
+  pub uncancelled : is_cancellation row.kind ≡ false
+
+pub plain_below : (m : ℕ) (rows : List Row) → All (Plain m) rows → All (NumbersBelow m) rows
+plain_below m = All-weaker (Plain m) (NumbersBelow m) (λ row p. p.below)
+
+-- trades cancel nothing
+pub plain_cancels_none : (m n : ℕ) (rows : List Row) → All (Plain m) rows → counted is_cancellation n rows ≡ 0
+plain_cancels_none m n = sum_by-nothing (Plain m) _ (λ row p. grind (arith, p.uncancelled))
 
 -- one row alone
 pub one_below : (m : ℕ) (row : Row) → NumbersBelow m row → All (NumbersBelow m) (row ∷ [])

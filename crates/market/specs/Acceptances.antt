@@ -1,7 +1,7 @@
 -- What each acceptance answers: two numbers.
-use Rattle.std.specs.Prelude.{ℕ}
+use Rattle.std.specs.Prelude.{ℕ, cond}
 use Rattle.market.specs.declared.acceptance.Acceptance.{Acceptance}
-use Rattle.market.specs.declared.acceptance.Acceptance.TheVariants.{Built, Entered, Cancelled, Switched}
+use Rattle.market.specs.declared.acceptance.Acceptance.TheVariants.{Built, Entered, Cancelled, Defined, Switched}
 
 -- the two numbers of each acceptance
 abbrev pub acceptance_numbers : Acceptance → ℕ × ℕ
@@ -11,5 +11,7 @@ acceptance_numbers (Built n) = (n, 0)
 acceptance_numbers (Entered n k) = (n, k)
 -- cancel: the order's number, and what it had open
 acceptance_numbers (Cancelled n k) = (n, k)
+-- define: the combination's number, and 1 if the signs were turned
+acceptance_numbers (Defined c turned) = (c, cond turned 1 0)
 -- switch: how many orders were taken out
 acceptance_numbers (Switched n) = (n, 0)

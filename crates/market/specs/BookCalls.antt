@@ -4,6 +4,7 @@ use Rattle.std.specs.List.{All}
 use Rattle.market.specs.declared.acceptance.Acceptance.TheVariants.{Entered, Cancelled, Switched}
 use Rattle.market.specs.declared.arrival.Arrival.{Arrival}
 use Rattle.market.specs.declared.call.Duration.TheVariants.{Day, Immediate, FillOrKill}
+use Rattle.market.specs.declared.leg.Leg.{Leg}
 use Rattle.market.specs.declared.order.Order.{Order}
 use Rattle.market.specs.declared.phase.Withdrawal.{Withdrawal}
 use Rattle.market.specs.declared.phase.Withdrawal.TheVariants.{Nothing, Quotes, Everything}
@@ -11,7 +12,8 @@ use Rattle.market.specs.declared.refusal.Refusal.TheVariants.{NumbersSpent, Book
 use Rattle.market.specs.declared.row.Row.{Row}
 use Rattle.market.specs.Endings.{Ending, refused, done}
 use Rattle.market.specs.Matching.{Match}
-use Rattle.market.specs.Orders.{quantity_of, sized, arriving, own}
+use Rattle.market.specs.Orders.{lot_book, lot_size, quantity_of, sized, arriving, own}
+use Rattle.market.specs.Round.{legs_of, Round}
 use Rattle.market.specs.Rows.{cancel_row}
 
 -- the resting orders in order of arrival, and the number that the next order gets
@@ -19,35 +21,39 @@ pub record BookState : Type 0 where
   pub orders : List Order
   pub next : ℕ
 
--- an order of q has entered under the next number and traded all but what is left
+-- an order of q has entered under the next number and, before the round, traded all but what was left
 abbrev pub entered : BookState → ℕ → ℕ → List Row → List Order → Ending BookState
 entered m q left rows os = done (record { accepted = Entered m.next (q - left); rows = rows; after = record { orders = os; next = m.next + 1 } })
 
-module _ (shares : List ℕ → ℕ → List ℕ) where
-  -- an order arrives, trades what it can, and what is open then rests or is cancelled
+module _ (shares : List ℕ → ℕ → List ℕ) (cs : List (List Leg)) where
+  -- the match of an order that arrives, from the first fill on
+  abbrev pub Matches : BookState → Arrival → List Row → ℕ → ℕ → List Order → Type 0
+  Matches m a rows f q os = Match shares (legs_of cs (lot_book a.lot)) (arriving a m.next) 1 (lot_size a.lot) m.orders rows f q os
+
+  -- Settles m a rows f q os: before the round, an order that arrives has come to these rows, the next fill f, q not traded, and the book os
+  pub data Settles (m : BookState) (a : Arrival) : List Row → ℕ → ℕ → List Order → Type 0 where
+    -- it trades whole
+    whole : {rows : List Row} {f : ℕ} {os : List Order} → Matches m a rows f 0 os → Settles m a rows f 0 os
+    -- D: what is open rests, as the last in the book
+    rests : {rows : List Row} {f q : ℕ} {os : List Order} → a.duration ≡ Day → Matches m a rows f q os → 0 < q → length os < 256 →
+        Settles m a rows f q (os ++ sized (arriving a m.next) q ∷ [])
+    -- I: what is open is cancelled
+    cut : {rows : List Row} {f q : ℕ} {os : List Order} → a.duration ≡ Immediate → Matches m a rows f q os → 0 < q →
+        Settles m a (rows ++ cancel_row (sized (arriving a m.next) q) ∷ []) f q os
+    -- F: it would not trade whole, so it trades nothing and is cancelled whole
+    killed : {rows : List Row} {f q : ℕ} {os : List Order} → a.duration ≡ FillOrKill → Matches m a rows f q os → 0 < q →
+        Settles m a (cancel_row (arriving a m.next) ∷ []) 1 (lot_size a.lot) m.orders
+
+  -- an order arrives, trades what it can, and what is open then rests or is cancelled; the round ends the call
   pub data Enters (m : BookState) (a : Arrival) : Ending BookState → Type 0 where
     -- the number that it needs is over 99,999
     no_number : 99999 < m.next → Enters m a (refused NumbersSpent)
-    -- it trades whole
-    whole : {rows : List Row} {f : ℕ} {os : List Order} → m.next ≤ 99999 →
-        Match shares (arriving a m.next) 1 a.quantity.0 m.orders rows f 0 os →
-        Enters m a (entered m a.quantity.0 0 rows os)
-    -- D: what is open rests, as the last in the book
-    rests : {rows : List Row} {f q : ℕ} {os : List Order} → m.next ≤ 99999 → a.duration ≡ Day →
-        Match shares (arriving a m.next) 1 a.quantity.0 m.orders rows f q os → 0 < q → length os < 256 →
-        Enters m a (entered m a.quantity.0 q rows (os ++ sized (arriving a m.next) q ∷ []))
-    -- D: it is to rest, and 256 do
-    no_room : {rows : List Row} {f q : ℕ} {os : List Order} → m.next ≤ 99999 → a.duration ≡ Day →
-        Match shares (arriving a m.next) 1 a.quantity.0 m.orders rows f q os → 0 < q → 256 ≤ length os →
+    -- D: it is to rest after its match, and 256 do
+    no_room : {rows : List Row} {f q : ℕ} {os : List Order} → m.next ≤ 99999 → a.duration ≡ Day → Matches m a rows f q os → 0 < q → 256 ≤ length os →
         Enters m a (refused BookFull)
-    -- I: what is open is cancelled
-    cut : {rows : List Row} {f q : ℕ} {os : List Order} → m.next ≤ 99999 → a.duration ≡ Immediate →
-        Match shares (arriving a m.next) 1 a.quantity.0 m.orders rows f q os → 0 < q →
-        Enters m a (entered m a.quantity.0 q (rows ++ cancel_row (sized (arriving a m.next) q) ∷ []) os)
-    -- F: it would not trade whole, so it trades nothing and is cancelled whole
-    killed : {rows : List Row} {f q : ℕ} {os : List Order} → m.next ≤ 99999 → a.duration ≡ FillOrKill →
-        Match shares (arriving a m.next) 1 a.quantity.0 m.orders rows f q os → 0 < q →
-        Enters m a (entered m a.quantity.0 a.quantity.0 (cancel_row (arriving a m.next) ∷ []) m.orders)
+    -- it settles, and then the round
+    settled : {rows rows' : List Row} {f q f' : ℕ} {os os' : List Order} → m.next ≤ 99999 → Settles m a rows f q os →
+        Round shares cs f os rows' f' os' → Enters m a (entered m (lot_size a.lot) q (rows ++ rows') os')
 
 -- the participant's order of that number is taken out; all others stay as found
 pub data Cancels (m : BookState) (participant number : ℕ) : Ending BookState → Type 0 where

@@ -1,5 +1,5 @@
 -- Orders, and the book that each rests in.
-use Rattle.std.specs.Prelude.{ℕ, ◌-◌, Bool, false, not, ◌&&◌, ◌==◌}
+use Rattle.std.specs.Prelude.{ℕ, ◌-◌, Bool, false, cond, not, ◌&&◌, ◌==◌, nat_lt}
 use Rattle.market.specs.declared.arrival.Arrival.{Arrival}
 use Rattle.market.specs.declared.book_id.BookId.{BookId}
 use Rattle.market.specs.declared.book_id.BookId.TheVariants.{Instrument, Combination}
@@ -18,6 +18,10 @@ lot_book (Combined c q) = Combination c
 abbrev pub lot_size : Lot → ℕ
 lot_size (Outright i q) = q.0
 lot_size (Combined c q) = q.0
+
+-- so many contracts of an instrument, or units of a combination: combinations are numbered from 1001
+abbrev pub lot_of : ℕ → ℕ → Lot
+lot_of i q = cond (nat_lt i 1001) (Outright i (record { 0 = q })) (Combined i (record { 0 = q }))
 
 -- the lot with another size
 abbrev pub sized_lot : Lot → ℕ → Lot
@@ -58,4 +62,4 @@ own p n o = o.number == n && (o.participant == p && not o.quote)
 
 -- an arriving order under the number that it is given
 abbrev pub arriving : Arrival → ℕ → Order
-arriving a n = record { number = n; participant = a.participant; side = a.side; price = a.price; lot = Outright a.instrument a.quantity; quote = false }
+arriving a n = record { number = n; participant = a.participant; side = a.side; price = a.price; lot = a.lot; quote = false }

@@ -1,5 +1,5 @@
 -- Sides, and prices as a side sees them.
-use Rattle.std.specs.Prelude.{Bool, true, false, ◌&&◌, int_le}
+use Rattle.std.specs.Prelude.{Bool, true, false, ◌&&◌, ℤ, int_le}
 use Rattle.market.specs.declared.price.Price.{Price}
 use Rattle.market.specs.declared.side.Side.{Side}
 use Rattle.market.specs.declared.side.Side.TheVariants.{Buy, Sell}
@@ -24,3 +24,7 @@ good Sell p q = int_le q.0 p.0
 -- one and the same price: each is at most the other
 abbrev pub same_price : Price → Price → Bool
 same_price p q = int_le p.0 q.0 && int_le q.0 p.0
+
+-- a net, to be compared with prices
+abbrev pub as_price : ℤ → Price
+as_price z = record { 0 = z }

@@ -3,7 +3,7 @@ use Rattle.std.specs.Prelude.{ℕ}
 use Rattle.market.specs.declared.refusal.Layer.{Layer}
 use Rattle.market.specs.declared.refusal.Layer.TheVariants as layer
 use Rattle.market.specs.declared.refusal.Refusal.{Refusal}
-use Rattle.market.specs.declared.refusal.Refusal.TheVariants.{NotOffered, Byte, Field, Band, Phase, Participant, Unknown, Order, Quantity, Price, NumbersSpent, BookFull, ReportFull}
+use Rattle.market.specs.declared.refusal.Refusal.TheVariants.{NotOffered, Byte, Field, Band, Phase, Participant, Unknown, Order, Quantity, Price, Legs, CombinationsSpent, NumbersSpent, BookFull, ReportFull}
 use Rattle.market.specs.declared.refusal.RefusalCode.{RefusalCode}
 
 -- a number, a layer and a place
@@ -24,7 +24,7 @@ refusal_code (Band p) = told 3 layer.Gate p
 refusal_code Phase = told 4 layer.Gate 0
 -- no such participant
 refusal_code Participant = told 5 layer.Gate 1
--- no such instrument
+-- no such instrument or combination
 refusal_code (Unknown p) = told 6 layer.Gate p
 -- no such order of this participant
 refusal_code Order = told 7 layer.Gate 2
@@ -32,6 +32,10 @@ refusal_code Order = told 7 layer.Gate 2
 refusal_code (Quantity p) = told 8 layer.Gate p
 -- a price outside its band
 refusal_code (Price p) = told 9 layer.Gate p
+-- legs that no combination may have
+refusal_code (Legs p) = told 11 layer.Gate p
+-- the combination would be new, and 32 exist
+refusal_code CombinationsSpent = told 12 layer.Gate 0
 -- no order number is left
 refusal_code NumbersSpent = told 13 layer.Book 0
 -- an order is to rest, and the book is full

@@ -1,9 +1,13 @@
 -- A venue as a member meets it: what it refuses, and what each call does.
-use Rattle.std.specs.Prelude.{◌≡◌, ℕ, ◌-◌, Bool, true, false, cond, ◌&&◌, List, [], ◌∷◌, pos, Some, None, Ok, Err, Option, Result, ◌==◌, int_le, nat_le}
-use Rattle.std.specs.List.{slice_get}
+use Rattle.std.specs.Prelude.{◌≡◌, ℕ, ◌+◌, ◌-◌, Bool, true, false, cond, ◌&&◌, ◌||◌, List, [], ◌∷◌, ◌++◌, length, pos, neg_ℤ, Some, None, Ok, Err, Option, Result, ◌==◌, int_le, nat_lt, nat_le}
+use Rattle.std.specs.List.{slice_get, list_any}
+use Rattle.std.specs.Option.{option_map}
+use Rattle.arrayvec.specs.ArrayVec.{ArrayVec}
+use Rattle.market.specs.declared.acceptance.Acceptance.TheVariants.{Defined}
 use Rattle.market.specs.declared.call.Call.{Call}
 use Rattle.market.specs.declared.call.Call.TheVariants.{Enter, Amend, Cancel, Quote, Define, Switch}
 use Rattle.market.specs.declared.call.Duration.{Duration}
+use Rattle.market.specs.declared.leg.Leg.{Leg}
 use Rattle.market.specs.declared.order.Order.{Order}
 use Rattle.market.specs.declared.phase.Event.{Event}
 use Rattle.market.specs.declared.phase.Event.TheVariants.{Open, Halt, Resume, Close}
@@ -18,19 +22,22 @@ use Rattle.market.specs.declared.refusal.Refusal.{Refusal}
 use Rattle.market.specs.declared.refusal.Refusal.TheVariants as refusal
 use Rattle.market.specs.declared.side.Side.{Side}
 use Rattle.market.specs.BookCalls.{BookState, Enters, Cancels, withdrawn}
+use Rattle.market.specs.Combinations.{normal, turns, broken_leg, exists, same_legs, NoneMade, FirstMade}
 use Rattle.market.specs.Endings.{Ending, refused, done}
-use Rattle.market.specs.Orders.{own}
+use Rattle.market.specs.Orders.{own, lot_of}
+use Rattle.market.specs.Tables.{unless, topmost, first_broken}
 
--- what a venue is: its product, its phase, a price band for each instrument, and its book
+-- what a venue is: its product, its phase, a price band for each instrument, the legs of each combination in the order in which they were made, and its book
 pub record View : Type 0 where
   pub product : Product
   pub phase : Phase
   pub bands : List Band
+  pub combinations : List (List Leg)
   pub book : BookState
 
 -- a venue just built
 abbrev pub fresh : Product → List Band → View
-fresh product bands = record { product = product; phase = PreOpen; bands = bands; book = record { orders = []; next = 1 } }
+fresh product bands = record { product = product; phase = PreOpen; bands = bands; combinations = []; book = record { orders = []; next = 1 } }
 
 -- ---- what is refused
 
@@ -38,17 +45,7 @@ fresh product bands = record { product = product; phase = PreOpen; bands = bands
 abbrev pub between : ℕ → ℕ → ℕ → Bool
 between low high n = nat_le low n && nat_le n high
 
--- refused unless the test holds
-abbrev pub unless : Bool → Refusal → Option Refusal
-unless test e = cond test None (Some e)
-
--- of the conditions of a table, from the top down, the first that holds
-abbrev pub topmost : List (Option Refusal) → Option Refusal
-topmost [] = None
-topmost (None ∷ faults) = topmost faults
-topmost (Some e ∷ faults) = Some e
-
--- enter runs in Continuous only
+-- enter and define run in Continuous only
 abbrev pub trading : Phase → Bool
 trading PreOpen = false
 trading Continuous = true
@@ -75,6 +72,18 @@ known (Some b) = true
 abbrev pub within_band : Option Band → Price → Bool
 within_band None p = false
 within_band (Some b) p = int_le (pos b.low) p.0 && int_le p.0 (pos b.high)
+
+-- there is such an instrument or combination: combinations are numbered from 1001
+abbrev pub tradable : View → ℕ → Bool
+tradable v i = cond (nat_lt i 1001) (known (band_of v.bands i)) (exists v.combinations i)
+
+-- a net price lies from -99,999,900 to 99,999,900
+abbrev pub within_net_band : Price → Bool
+within_net_band p = int_le (neg_ℤ (pos 99999900)) p.0 && int_le p.0 (pos 99999900)
+
+-- the price of an order lies in the instrument's band, a net price in that of net prices
+abbrev pub price_fits : View → ℕ → Price → Bool
+price_fits v i p = cond (nat_lt i 1001) (within_band (band_of v.bands i) p) (within_net_band p)
 
 -- some resting order is the participant's own of that number, quotes apart
 abbrev pub owned : ℕ → ℕ → List Order → Bool
@@ -109,14 +118,23 @@ switch_fault (Some phase) = None
 abbrev pub not_offered : Option Refusal
 not_offered = Some refusal.NotOffered
 
+-- the refusal of a request for a combination, whichever exist
+abbrev pub request_fault : View → ℕ → List Leg → Option Refusal
+request_fault v p legs = topmost (
+    unless (trading v.phase) refusal.Phase
+    ∷ unless (between 1 999 p) refusal.Participant
+    ∷ option_map refusal.Unknown (first_broken (λ l. known (band_of v.bands l.instrument)) legs 3)
+    ∷ option_map refusal.Legs (broken_leg v.product legs)
+    ∷ [])
+
 -- the refusal that the gate has for a call, if any; a place is that of the field at fault, counted from 0
 abbrev pub fault : View → Call → Option Refusal
 fault v (Enter p i s q r d) = topmost (
     unless (trading v.phase) refusal.Phase
     ∷ unless (between 1 999 p) refusal.Participant
-    ∷ unless (known (band_of v.bands i)) (refusal.Unknown 2)
+    ∷ unless (tradable v i) (refusal.Unknown 2)
     ∷ unless (between 1 10000 q) (refusal.Quantity 4)
-    ∷ unless (within_band (band_of v.bands i) r) (refusal.Price 5)
+    ∷ unless (price_fits v i r) (refusal.Price 5)
     ∷ [])
 fault v (Cancel p n) = topmost (
     unless (serving v.phase) refusal.Phase
@@ -126,7 +144,10 @@ fault v (Cancel p n) = topmost (
 fault v (Switch w) = switch_fault (next_phase v.phase w)
 fault v (Amend p n q r) = not_offered
 fault v (Quote p i q r k t) = not_offered
-fault v (Define p legs) = not_offered
+fault v (Define p legs) = topmost (
+    request_fault v p legs.items
+    ∷ unless (nat_lt (length v.combinations) 32 || list_any (same_legs (normal legs.items)) v.combinations) refusal.CombinationsSpent
+    ∷ [])
 
 -- ---- what is done
 
@@ -139,12 +160,20 @@ withdraws Close = Everything
 
 -- the venue in another phase
 abbrev pub in_phase : View → Phase → View
-in_phase v phase = record { product = v.product; phase = phase; bands = v.bands; book = v.book }
+in_phase v phase = record { product = v.product; phase = phase; bands = v.bands; combinations = v.combinations; book = v.book }
 
 -- what the book's ending makes of the venue
 abbrev pub at_book : View → Ending BookState → Ending View
 at_book v (refused e) = refused e
-at_book v (done e) = done (record { accepted = e.accepted; rows = e.rows; after = record { product = v.product; phase = v.phase; bands = v.bands; book = e.after } })
+at_book v (done e) = done (record { accepted = e.accepted; rows = e.rows; after = record { product = v.product; phase = v.phase; bands = v.bands; combinations = v.combinations; book = e.after } })
+
+-- the venue with these combinations
+abbrev pub with_combinations : View → List (List Leg) → View
+with_combinations v cs = record { product = v.product; phase = v.phase; bands = v.bands; combinations = cs; book = v.book }
+
+-- a request for these legs is answered with the combination's number, and the venue then has these combinations; no row is told
+abbrev pub defined : View → List Leg → ℕ → List (List Leg) → Ending View
+defined v legs c cs = done (record { accepted = Defined c (turns legs); rows = []; after = with_combinations v cs })
 
 module _ (shares : List ℕ → ℕ → List ℕ) where
   -- what a call does to a venue
@@ -153,10 +182,16 @@ module _ (shares : List ℕ → ℕ → List ℕ) where
     at_fault : (c : Call) (e : Refusal) → fault v c ≡ Some e → Does v c (refused e)
     -- an order arrives in the book
     enters : (p i : ℕ) (s : Side) (q : ℕ) (r : Price) (d : Duration) (e : Ending BookState) → fault v (Enter p i s q r d) ≡ None →
-        Enters shares v.book (record { participant = p; instrument = i; side = s; quantity = record { 0 = q }; price = r; duration = d }) e →
+        Enters shares v.combinations v.book (record { participant = p; side = s; lot = lot_of i q; price = r; duration = d }) e →
         Does v (Enter p i s q r d) (at_book v e)
     -- a resting order is taken out
     cancels : (p n : ℕ) (e : Ending BookState) → fault v (Cancel p n) ≡ None → Cancels v.book p n e → Does v (Cancel p n) (at_book v e)
+    -- a combination with these legs exists: nothing is made
+    finds : (p : ℕ) (legs : ArrayVec Leg) (c : ℕ) → fault v (Define p legs) ≡ None → FirstMade v.combinations (normal legs.items) c →
+        Does v (Define p legs) (defined v legs.items c v.combinations)
+    -- none has these legs: a new one stands as the last
+    makes : (p : ℕ) (legs : ArrayVec Leg) → fault v (Define p legs) ≡ None → NoneMade v.combinations (normal legs.items) →
+        Does v (Define p legs) (defined v legs.items (1001 + length v.combinations) (v.combinations ++ normal legs.items ∷ []))
     -- the phase changes
     switches : (w : Event) (phase : Phase) → next_phase v.phase w ≡ Some phase → Does v (Switch w) (at_book (in_phase v phase) (withdrawn (withdraws w) v.book))
 

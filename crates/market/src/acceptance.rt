@@ -10,6 +10,8 @@ pub enum Acceptance {
     Entered { number: u32, traded: u32 },
     // the order's number, and what it had open
     Cancelled { number: u32, quantity: u32 },
+    // the combination's number, and whether the signs of the request were turned
+    Defined { combination: u32, turned: bool },
     // how many orders were taken out
     Switched { orders: u32 },
 }
@@ -23,6 +25,10 @@ impl From<Acceptance> for (u32, u32) {
             Acceptance::Built { instruments } => (instruments, 0),
             Acceptance::Entered { number, traded } => (number, traded),
             Acceptance::Cancelled { number, quantity } => (number, quantity),
+            Acceptance::Defined {
+                combination,
+                turned,
+            } => (combination, u32::from(turned)),
             Acceptance::Switched { orders } => (orders, 0),
         };
         (first, second)

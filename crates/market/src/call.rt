@@ -1,4 +1,6 @@
 // What a member can ask of a venue.
+use crate::combination::MOST_LEGS;
+use crate::leg::Leg;
 use crate::phase::Event;
 use crate::price::Price;
 use crate::side::Side;
@@ -10,12 +12,6 @@ pub enum Duration {
     Day,
     Immediate,
     FillOrKill,
-}
-
-#[derive(Clone, Copy, Default)]
-pub struct Leg {
-    pub instrument: u32,
-    pub ratio: i32,
 }
 
 // One call, as read from a line: all numbers as they stand there, a book by its number alone; the gate makes an Arrival or an OrderId of them, and then judges it.
@@ -49,7 +45,7 @@ pub enum Call {
     },
     Define {
         participant: u32,
-        legs: ArrayVec<Leg, 10>,
+        legs: ArrayVec<Leg, MOST_LEGS>,
     },
     Switch {
         event: Event,

@@ -2,19 +2,23 @@
 ghost use Rattle.std.specs.Prelude.{◌≡◌, ◌+◌, ◌≤◌, true, [], length, IfOk};
 ghost use Rattle.market.specs.BookCalls.{Enters, Cancels, withdrawn};
 ghost use Rattle.market.specs.Endings.{Follows};
+ghost use Rattle.market.specs.Orders.{lot_size};
 ghost use Rattle.market.specs.Venues.{owned};
 ghost use Rattle.book.specs.Closing.{book_state, Closes};
 ghost use Rattle.book.specs.Held.{held};
+ghost use Rattle.book.specs.Table.{table};
 
 use super::Book;
 use crate::draft::Draft;
 use crate::entering::Entering;
-use crate::lot::lot_size;
+use crate::legs::legs_of;
+use crate::lot::{lot_book, lot_size};
 use crate::orders::Orders;
 use crate::rows::cancel_row;
 use crate::told::Told;
 use market::acceptance::Acceptance;
 use market::arrival::Arrival;
+use market::combination::Combination;
 use market::order_id::OrderId;
 use market::phase::Withdrawal;
 use market::refusal::{Refusal, refuse};
@@ -63,15 +67,16 @@ impl Book {
         self.resting.find_own(id).is_some()
     }
 
-    // An order arrives: it trades what it can, and what is left rests or is cancelled.
+    // An order arrives: it trades what it can, what is left rests or is cancelled, and the round ends the call.
     pub fn enter<R: AllocationRule>(
         &mut self,
         rule: &R,
         arrival: Arrival,
+        combinations: &[Combination],
         report: &mut [Row],
     ) -> Result<(u32, u32), Refusal>
-        requires { arrival.quantity.0 ≤ 10000 }
-        ensures { Follows (Enters (R.AllocationRule.shares rule.now) (book_state self.old) arrival) (book_state self.old) (length report.old) result report.new (book_state self.new) }
+        requires { lot_size arrival.lot ≤ 10000 }
+        ensures { Follows (Enters (R.AllocationRule.shares rule.now) (table combinations.now) (book_state self.old) arrival) (book_state self.old) (length report.old) result report.new (book_state self.new) }
     {
         let mut told = Told::start(report);
         let number = self.next;
@@ -80,8 +85,14 @@ impl Book {
         }
         self.draft.orders.copy_from(&self.resting);
         let entering = Entering::new(arrival, number);
-        let left = self.draft.match_order(rule, entering, &mut told);
-        let traded = self.draft.settle(&self.resting, entering, left, &mut told)?;
+        let legs = legs_of(combinations, lot_book(arrival.lot));
+        let at = self
+            .draft
+            .match_order(rule, &entering.order, legs, &mut told);
+        let at = self.draft.settle(&self.resting, entering, at, &mut told)?;
+        self.draft
+            .round(rule, combinations, at.next_fill, &mut told);
+        let traded = lot_size(arrival.lot) - at.left;
         self.close(
             Acceptance::Entered { number, traded },
             number + 1,

@@ -1,31 +1,39 @@
 // What may be done with a venue.
-ghost use Rattle.std.specs.Prelude.{◌≡◌, length};
-ghost use Rattle.market.specs.declared.call.Call.TheVariants.{Enter, Cancel, Switch};
+ghost use Rattle.std.specs.Prelude.{◌≡◌, ◌≤◌, length};
+ghost use Rattle.market.specs.declared.call.Call.TheVariants.{Enter, Cancel, Define, Switch};
 ghost use Rattle.market.specs.Bands.{BandsJudged};
 ghost use Rattle.market.specs.Endings.{Follows};
-ghost use Rattle.market.specs.Venues.{Does, fault};
+ghost use Rattle.market.specs.Venues.{Does, fault, tradable, price_fits};
 ghost use Rattle.gate.specs.Conditions.{Judges};
+ghost use Rattle.gate.specs.Made.{Requests};
 ghost use Rattle.gate.specs.Views.{view, rule_of, BuiltWith, refusal_of};
 
 use super::{MOST_INSTRUMENTS, Venue};
 use crate::build_error::BuildError;
-use crate::fault::{check_participant, judge, unless, within_band};
+use crate::combinations::Combinations;
+use crate::entry::Entry;
+use crate::fault::{check_participant, judge, unless, within_band, within_net_band};
+use crate::legs::combine;
+use crate::listing::Listing;
+use crate::ratios::turns;
 use crate::trading::Trading;
 use arrayvec::ArrayVec;
 use book::book::Book;
-use market::arrival::Arrival;
+use market::acceptance::Acceptance;
 use market::call::Call;
-use market::counts::Contracts;
+use market::combination::{Combination, FIRST_COMBINATION, MOST_LEGS};
+use market::leg::Leg;
 use market::order_id::OrderId;
 use market::phase::{Event, Phase};
+use market::price::Price;
 use market::product::{Band, Product};
 use market::refusal::{Refusal, refuse};
 use market::row::Row;
 use rules::rule::AllocationRule;
 use std::alloc::Global;
 
-// The most contracts that an order may be for.
-const MOST_CONTRACTS: u32 = 10_000;
+// The most contracts or units that an order may be for.
+const MOST_ENTERED: u32 = 10_000;
 
 // A refusal also blanks the report, so that `?` alone would not do where a call is refused here.
 impl<R: AllocationRule> Venue<R> {
@@ -46,47 +54,74 @@ impl<R: AllocationRule> Venue<R> {
             phase: Phase::PreOpen,
             bands,
         };
+        let listing = Listing {
+            product,
+            trading,
+            combinations: Combinations::new(heap)?,
+        };
         let book = Book::new(heap)?;
         Ok(Venue {
             book,
             rule,
-            product,
-            trading,
+            listing,
         })
     }
 
-    // Whether an order may enter, and if not, why.
-    fn may_enter(&self, arrival: Arrival) -> Result<(), Refusal>
-        ensures { Judges (fault (view self.now) (Enter arrival.participant arrival.instrument arrival.side arrival.quantity.0 arrival.price arrival.duration)) result }
+    // There is such an instrument or combination.
+    fn knows(&self, book: u32) -> bool
+        ensures { result ≡ tradable (view self.now) book }
     {
-        unless(self.trading.open(), Refusal::Phase)?;
-        check_participant(arrival.participant)?;
-        let band = self
-            .trading
-            .band(arrival.instrument)
-            .ok_or(Refusal::Unknown(2))?;
-        unless(
-            (1..=MOST_CONTRACTS).contains(&arrival.quantity.0),
-            Refusal::Quantity(4),
-        )?;
-        unless(within_band(band, arrival.price), Refusal::Price(5))
+        if book < FIRST_COMBINATION {
+            self.listing.trading.knows(book)
+        } else {
+            self.listing.combinations.exist(book)
+        }
     }
 
-    fn enter(&mut self, arrival: Arrival, report: &mut [Row]) -> Result<(u32, u32), Refusal>
-        ensures follows { Follows (Does (R.AllocationRule.shares (rule_of self.old)) (view self.old) (Enter arrival.participant arrival.instrument arrival.side arrival.quantity.0 arrival.price arrival.duration)) (view self.old) (length report.old) result report.new (view self.new) }
+    // The price lies in the instrument's band, or a net price in that of net prices.
+    fn price_fits(&self, book: u32, price: Price) -> bool
+        ensures { result ≡ price_fits (view self.now) book price }
+    {
+        if book < FIRST_COMBINATION {
+            let band = self.listing.trading.band(book);
+            band.is_some_and(|band| within_band(band, price))
+        } else {
+            within_net_band(price)
+        }
+    }
+
+    // Whether an order may enter, and if not, why.
+    fn may_enter(&self, entry: Entry) -> Result<(), Refusal>
+        ensures { Judges (fault (view self.now) (Enter entry.participant entry.book entry.side entry.quantity entry.price entry.duration)) result }
+    {
+        unless(self.listing.trading.open(), Refusal::Phase)?;
+        check_participant(entry.participant)?;
+        unless(self.knows(entry.book), Refusal::Unknown(2))?;
+        unless(
+            (1..=MOST_ENTERED).contains(&entry.quantity),
+            Refusal::Quantity(4),
+        )?;
+        unless(self.price_fits(entry.book, entry.price), Refusal::Price(5))
+    }
+
+    fn enter(&mut self, entry: Entry, report: &mut [Row]) -> Result<(u32, u32), Refusal>
+        ensures follows { Follows (Does (R.AllocationRule.shares (rule_of self.old)) (view self.old) (Enter entry.participant entry.book entry.side entry.quantity entry.price entry.duration)) (view self.old) (length report.old) result report.new (view self.new) }
         ensures rule { rule_of self.new ≡ rule_of self.old }
     {
-        if let Err(refusal) = self.may_enter(arrival) {
+        if let Err(refusal) = self.may_enter(entry) {
             return refuse(report, refusal);
         }
-        self.book.enter(&self.rule, arrival, report)
+        let listing = &self.listing;
+        let combinations = listing.combinations.as_slice();
+        self.book
+            .enter(&self.rule, entry.arrival(), combinations, report)
     }
 
     // Whether an order may be cancelled, and if not, why.
     fn may_cancel(&self, id: OrderId) -> Result<(), Refusal>
         ensures { Judges (fault (view self.now) (Cancel id.participant id.number)) result }
     {
-        unless(self.trading.serving(), Refusal::Phase)?;
+        unless(self.listing.trading.serving(), Refusal::Phase)?;
         check_participant(id.participant)?;
         unless(self.book.owns(id), Refusal::Order)
     }
@@ -101,15 +136,54 @@ impl<R: AllocationRule> Venue<R> {
         self.book.cancel(id, report)
     }
 
+    // The combination that a request names, or why it is refused whichever exist.
+    fn requested(&self, participant: u32, legs: &[Leg]) -> Result<Combination, Refusal>
+        requires { length legs.now ≤ 10 }
+        ensures { Requests (view self.now) participant legs.now result }
+    {
+        unless(self.listing.trading.open(), Refusal::Phase)?;
+        check_participant(participant)?;
+        self.listing
+            .trading
+            .check_known(legs)
+            .map_err(Refusal::Unknown)?;
+        combine(self.listing.product, legs).map_err(Refusal::Legs)
+    }
+
+    fn define(
+        &mut self,
+        participant: u32,
+        legs: &ArrayVec<Leg, MOST_LEGS>,
+        report: &mut [Row],
+    ) -> Result<(u32, u32), Refusal>
+        ensures follows { Follows (Does (R.AllocationRule.shares (rule_of self.old)) (view self.old) (Define participant legs.now)) (view self.old) (length report.old) result report.new (view self.new) }
+        ensures rule { rule_of self.new ≡ rule_of self.old }
+    {
+        let legs = legs.as_slice();
+        let request = match self.requested(participant, legs) {
+            Ok(request) => request,
+            Err(refusal) => return refuse(report, refusal),
+        };
+        let Some(combination) = self.listing.combinations.number(request) else {
+            return refuse(report, Refusal::CombinationsSpent);
+        };
+        report.fill(Row::blank());
+        let defined = Acceptance::Defined {
+            combination,
+            turned: turns(legs),
+        };
+        Ok(defined.into())
+    }
+
     fn switch(&mut self, event: Event, report: &mut [Row]) -> Result<(u32, u32), Refusal>
         ensures follows { Follows (Does (R.AllocationRule.shares (rule_of self.old)) (view self.old) (Switch event)) (view self.old) (length report.old) result report.new (view self.new) }
         ensures rule { rule_of self.new ≡ rule_of self.old }
     {
-        let Some((phase, leaving)) = self.trading.turned(event) else {
+        let Some((phase, leaving)) = self.listing.trading.turned(event) else {
             return refuse(report, Refusal::Phase);
         };
         let answer = self.book.withdraw(leaving, report)?;
-        self.trading.phase = phase;
+        self.listing.trading.phase = phase;
         Ok(answer)
     }
 
@@ -127,15 +201,15 @@ impl<R: AllocationRule> Venue<R> {
                 price,
                 duration,
             } => {
-                let arrival = Arrival {
+                let entry = Entry {
                     participant,
-                    instrument: book,
+                    book,
                     side,
-                    quantity: Contracts(quantity),
+                    quantity,
                     price,
                     duration,
                 };
-                self.enter(arrival, report)
+                self.enter(entry, report)
             }
             Call::Cancel {
                 participant,
@@ -147,10 +221,9 @@ impl<R: AllocationRule> Venue<R> {
                 };
                 self.cancel(id, report)
             }
+            Call::Define { participant, legs } => self.define(participant, &legs, report),
             Call::Switch { event } => self.switch(event, report),
-            Call::Amend { .. } | Call::Quote { .. } | Call::Define { .. } => {
-                refuse(report, Refusal::NotOffered)
-            }
+            Call::Amend { .. } | Call::Quote { .. } => refuse(report, Refusal::NotOffered),
         }
     }
 }

@@ -7,5 +7,5 @@ use Rattle.gate.proofs.fault.first_broken.Goals as goal
 
 pub returns : goal.returns
 returns g c p h =
-    let is = broken_at p c.args.place c.args.bands.now _ (position_from_yields_List (λ b. not (p b)) _ _ c.position.result c.position.ensures.ran (YieldsList-from_slice c.args.bands.now c.iter.ensures.rest) (λ x b q k. (search rules, h x.now b (record { shown = x; shows = refl; says = search rules })))) in
+    let is = broken_at p c.args.place c.args.elements.now _ (position_from_yields_List (λ b. not (p b)) _ _ c.position.result c.position.ensures.ran (YieldsList-from_slice c.args.elements.now c.iter.ensures.rest) (λ x b q k. (search rules, h x.now b (record { shown = x; shows = refl; says = search rules })))) in
     subst (λ o. Judges o c.map_or.result) (sym is) (told c.args.place c.position.result c.map_or.result c.map_or.ensures (λ i h. search rules))

@@ -1,53 +1,32 @@
-use Rattle.std.proofs.Common.{◌≡◌, List, [], Some, vec_items, sym, subst, arith}
+use Rattle.std.proofs.Common.{List, vec_items, sym, subst, arith}
 use Rattle.market.specs.declared.order.Order.{Order}
-use Rattle.market.specs.Levels.{NoneWithin, after_fill}
-use Rattle.market.specs.Matching.{Match, filled, no_more, given, divided}
-use Rattle.market.specs.Orders.{lot_book}
-use Rattle.market.specs.Prices.{opposite}
-use Rattle.book.specs.Facing.{faces}
-use Rattle.book.specs.Matched.{BestWithin}
-use Rattle.book.proofs.Bounds.{level_open}
-use Rattle.book.proofs.Going.{going_fill, going_end}
+use Rattle.book.specs.declared.told.Told.{Told}
+use Rattle.book.specs.Table.{lent}
+use Rattle.book.specs.Matched.{Matched}
+use Rattle.book.proofs.Going.{going_start, going_on, going_over, going_filled}
 use Rattle.book.proofs.draft.Draft.match_order.Goals as goal
+
+pub loop-at-init : goal.loop-at-init
+loop-at-init g c = going_start (g.R.AllocationRule.shares c.args.rule.now) (lent c.args.legs) c.args.order.now (vec_items c.args.self.now.orders.inner.orders) c.args.told.now c.lot_size.result c.lot_size.ensures c.requires.few
+
+pub loop-at-preserved : goal.loop-at-preserved
+loop-at-preserved g c =
+    let now = c.loop-at in
+    going_on (g.R.AllocationRule.shares c.args.rule.now) (lent c.args.legs) c.args.order.now (vec_items c.args.self.now.orders.inner.orders) c.args.told.now now.at.next_fill now.at.left (vec_items now.self.orders.inner.orders) now.told c.in-Some.traded (vec_items c.take_step.new.self.orders.inner.orders) c.take_step.new.told now.invariant c.in-Some.ensures
+
+pub returns-after-loop-at-clause-run : goal.returns-after-loop-at-clause-run
+returns-after-loop-at-clause-run g c =
+    let now = c.loop-at in
+    going_filled (g.R.AllocationRule.shares c.args.rule.now) (lent c.args.legs) c.args.order.now (vec_items c.args.self.now.orders.inner.orders) c.args.told.now now.at.next_fill now.at.left (vec_items now.self.orders.inner.orders) now.told now.invariant (omega (arith, c.loop-at-test.false))
 
 pub returns-in_default-clause-run : goal.returns-in_default-clause-run
 returns-in_default-clause-run g c =
-    let o = c.args.entering.order in
-    let now = c.loop-left in
-    let none : NoneWithin (lot_book o.lot) o.side o.price (vec_items now.self.orders.inner.orders) = subst (NoneWithin (lot_book o.lot) o.side o.price) c.as_slice.ensures c.in_default.ensures in
-    going_end _ _ _ _ now.number now.left (vec_items now.self.orders.inner.orders) now.told now.invariant.0 (no_more none)
-
-pub loop-left-smaller : goal.loop-left-smaller
-loop-left-smaller g c =
-    let o = c.args.entering.order in
-    let os = vec_items c.loop-left.self.orders.inner.orders in
-    let p = c.in-Some.price in
-    let found : BestWithin o os (Some p) = subst (λ (xs : List Order). BestWithin o xs (Some p)) c.as_slice.ensures c.in-Some.ensures in
-    omega (arith, c.fill_level-left.ensures.given, level_open (lot_book o.lot) (opposite o.side) p os c.loop-left.self.orders.positive found.0.there, c.loop-left-test.true)
-
-pub loop-left-preserved : goal.loop-left-preserved
-loop-left-preserved g c =
     let shares = g.R.AllocationRule.shares c.args.rule.now in
-    let o = c.args.entering.order in
-    let now = c.loop-left in
-    let os = vec_items now.self.orders.inner.orders in
-    let q = now.left in
-    let p = c.in-Some.price in
-    let found : BestWithin o os (Some p) = subst (λ (xs : List Order). BestWithin o xs (Some p)) c.as_slice.ensures c.in-Some.ensures in
-    let done = c.fill_level-left in
-    let eo : vec_items done.new.self.orders.inner.orders ≡ after_fill (faces o p) os (divided shares o p os q) = done.ensures.orders in
-    let eg : done.result ≡ given o p os q = done.ensures.given in
-    let some = level_open (lot_book o.lot) (opposite o.side) p os now.self.orders.positive found.0.there in (
-      rw (eo, eg) (going_fill shares o _ _ now.number q os now.told p done.new.told now.invariant.0 c.loop-left-test.true found.0 found.1 done.ensures.rows),
-      omega (arith, now.invariant.1),
-      omega (arith, now.invariant.2, c.loop-left-test.true),
-    )
-
-pub returns-after-loop-left-clause-run : goal.returns-after-loop-left-clause-run
-returns-after-loop-left-clause-run g c =
-    let o = c.args.entering.order in
-    let now = c.loop-left in
-    let os = vec_items now.self.orders.inner.orders in
-    let none_left : now.left ≡ 0 = omega arith in
-    going_end _ _ _ _ now.number now.left os now.told now.invariant.0
-    (subst (λ n. Match (g.R.AllocationRule.shares c.args.rule.now) o now.number n os [] now.number n os) (sym none_left) filled)
+    let now = c.loop-at in
+    let legs = lent c.args.legs in
+    let o = c.args.order.now in
+    let os₀ : List Order = vec_items c.args.self.now.orders.inner.orders in
+    let done = c.in_default.ensures in
+    subst (λ (xs : List Order). Matched shares legs o os₀ c.args.told.now now.at.next_fill now.at.left xs c.take_step.new.told) (sym done.1)
+    (subst (λ (t : Told). Matched shares legs o os₀ c.args.told.now now.at.next_fill now.at.left (vec_items now.self.orders.inner.orders) t) (sym done.2)
+    (going_over shares legs o os₀ c.args.told.now now.at.next_fill now.at.left (vec_items now.self.orders.inner.orders) now.told now.invariant done.0))

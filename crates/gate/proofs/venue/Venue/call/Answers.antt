@@ -5,4 +5,4 @@ use Rattle.gate.proofs.Lifting.{refused_by}
 use Rattle.gate.proofs.venue.Venue.call.Goals as goal
 
 pub returns-in-Amend-clause-follows : goal.returns-in-Amend-clause-follows
-returns-in-Amend-clause-follows g c = refused_by (elim c.in-Amend.is [ inl h ↦ ap (fault (view c.args.self.now)) h.4 | inr (inl h) ↦ ap (fault (view c.args.self.now)) h.6 | inr (inr h) ↦ ap (fault (view c.args.self.now)) h.2 ]) c.refuse.ensures.answer c.refuse.ensures.blank
+returns-in-Amend-clause-follows g c = refused_by (elim c.in-Amend.is [ inl h ↦ ap (fault (view c.args.self.now)) h.4 | inr h ↦ ap (fault (view c.args.self.now)) h.6 ]) c.refuse.ensures.answer c.refuse.ensures.blank

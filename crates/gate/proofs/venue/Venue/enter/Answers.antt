@@ -7,5 +7,6 @@ returns-in-Err-clause-follows g c = refused_by c.in-Err.ensures c.refuse.ensures
 
 pub returns-clause-follows : goal.returns-clause-follows
 returns-clause-follows g c =
-    let a = c.args.arrival in
-    lifted (λ e h. enters a.participant a.instrument a.side a.quantity.0 a.price a.duration e c.in_default.ensures h) c.enter.ensures
+    let e = c.args.entry in
+    let entered = rw (c.arrival.ensures, c.as_slice-combinations.ensures) at c.enter.ensures in
+    lifted (λ x h. enters e.participant e.book e.side e.quantity e.price e.duration x c.in_default.ensures h) entered

@@ -4,7 +4,7 @@ use Rattle.gate.proofs.Lifting.{refused_by, turned_not, switch_refused, switch_d
 use Rattle.gate.proofs.venue.Venue.switch.Goals as goal
 
 pub returns-in_default-clause-follows : goal.returns-in_default-clause-follows
-returns-in_default-clause-follows g c = refused_by (turned_not c.args.self.now.trading.phase c.args.event (sym c.turned.ensures ∙ c.in_default.is)) c.refuse.ensures.answer c.refuse.ensures.blank
+returns-in_default-clause-follows g c = refused_by (turned_not c.args.self.now.listing.trading.phase c.args.event (sym c.turned.ensures ∙ c.in_default.is)) c.refuse.ensures.answer c.refuse.ensures.blank
 
 pub returns-in_err-answer-clause-follows : goal.returns-in_err-answer-clause-follows
 returns-in_err-answer-clause-follows g c =
