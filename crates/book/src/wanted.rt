@@ -1,6 +1,6 @@
 // What an order would take from the books of its legs.
 ghost use Rattle.std.specs.Prelude.{◌≡◌, ◌<◌, ◌≤◌, None, option_map};
-ghost use Rattle.market.specs.Ladders.{net_to, wanted};
+ghost use Rattle.market.specs.Ladders.{reach, net_to, wanted};
 ghost use Rattle.book.specs.Bounds.{LegsFit};
 ghost use Rattle.book.specs.Table.{lent};
 ghost use Rattle.book.specs.Held.{held};
@@ -33,7 +33,14 @@ pub(crate) fn within(side: Side, limit: Price, net: Option<Amount>) -> bool
     }
 }
 
-// The net of unit 1 to an order; a quote takes from no leg.
+// The legs from which an order may take: a quote takes from none.
+fn reach<'a>(order: &Order, legs: Option<&'a [Leg]>) -> Option<&'a [Leg]>
+    ensures { lent result ≡ reach order.now (lent legs.entry) }
+{
+    if order.quote { None } else { legs }
+}
+
+// The net of unit 1 to an order.
 pub(crate) fn first_net_to(
     orders: &Orders,
     order: &Order,
@@ -43,10 +50,8 @@ pub(crate) fn first_net_to(
     requires { LegsFit (lent legs) }
     ensures { option_map (λ a. a.0) result ≡ net_to order.now (lent legs.entry) (held orders.now) 1 }
 {
-    match legs {
-        Some(legs) if !order.quote => first_net(orders, legs, order.side, scratch),
-        _ => None,
-    }
+    let legs = reach(order, legs)?;
+    first_net(orders, legs, order.side, scratch)
 }
 
 // The longest run of units that an order takes, up to so many; none where it would not take the first.
@@ -68,15 +73,11 @@ pub(crate) fn wanted_run<'a>(
         level,
         units: most,
     };
-    match legs {
-        Some(legs) if !order.quote => {
-            let run = longest_run(orders, legs, order.side, wish, scratch);
-            if run.units.0 > 0 {
-                Some(Wanted { legs, run })
-            } else {
-                None
-            }
-        }
-        _ => None,
+    let legs = reach(order, legs)?;
+    let run = longest_run(orders, legs, order.side, wish, scratch);
+    if run.units.0 > 0 {
+        Some(Wanted { legs, run })
+    } else {
+        None
     }
 }

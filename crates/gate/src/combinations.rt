@@ -50,7 +50,7 @@ impl Combinations {
     }
 
     // There is a combination of that number.
-    pub(crate) fn exist(&self, number: u32) -> bool
+    pub(crate) fn contains(&self, number: u32) -> bool
         ensures { result ≡ exists (all_legs self.now) number }
     {
         let end = FIRST_COMBINATION + self.made.len() as u32;
@@ -58,7 +58,7 @@ impl Combinations {
     }
 
     // The number of the combination with these legs, which is made if there is none; none where it would be one too many.
-    pub(crate) fn number(&mut self, combination: Combination) -> Option<u32>
+    pub(crate) fn find_or_make(&mut self, combination: Combination) -> Option<u32>
         ensures { Numbers (all_legs self.old) combination.legs.items result (all_legs self.new) }
     {
         if let Some(i) = self.find(combination.legs.as_slice()) {

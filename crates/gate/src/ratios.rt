@@ -2,7 +2,7 @@
 ghost use Rattle.std.specs.Prelude.{◌≡◌, ◌<◌, ◌≤◌, ◌/◌, length, map};
 ghost use Rattle.std.specs.Int.{IsGcd};
 ghost use Rattle.std.specs.List.{All};
-ghost use Rattle.market.specs.Combinations.{size, is_nonzero, divisor, turns, parts, reduced, normal};
+ghost use Rattle.market.specs.Combinations.{size, is_nonzero, divisor, turns, parts, reduced_leg, normal};
 
 use arrayvec::ArrayVec;
 use market::combination::MOST_LEGS;
@@ -63,10 +63,10 @@ pub(crate) fn turns(legs: &[Leg]) -> bool
     legs.first().is_some_and(Leg::is_minus)
 }
 
-fn reduced(leg: Leg, divisor: u32, turn: bool) -> Leg
+fn reduced_leg(leg: Leg, divisor: u32, turn: bool) -> Leg
     requires some { 0 < divisor }
     requires small { size leg / divisor ≤ 10 }
-    ensures { result ≡ reduced divisor turn leg }
+    ensures { result ≡ reduced_leg divisor turn leg }
 {
     let size = (leg.size() / divisor) as i32;
     let minus = leg.is_minus() != turn;
@@ -81,12 +81,12 @@ pub(crate) fn normal_form(legs: &[Leg], divisor: u32) -> ArrayVec<Leg, MOST_LEGS
     requires few { length legs.now ≤ 10 }
     requires some { 0 < divisor }
     requires small { All (λ l. size l / divisor ≤ 10) legs.now }
-    ensures { result.items ≡ map (reduced divisor (turns legs.now)) legs.now }
+    ensures { result.items ≡ map (reduced_leg divisor (turns legs.now)) legs.now }
 {
     let turn = turns(legs);
     let mut normal = ArrayVec::new();
     for leg in legs {
-        normal.push(reduced(*leg, divisor, turn));
+        normal.push(reduced_leg(*leg, divisor, turn));
     }
     normal
 }

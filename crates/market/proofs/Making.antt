@@ -22,7 +22,7 @@ use Rattle.market.specs.declared.product.Product.TheVariants.{Futures, Options}
 use Rattle.market.specs.declared.refusal.Refusal.{Refusal}
 use Rattle.market.specs.declared.refusal.Refusal.TheVariants as refusal
 use Rattle.market.specs.declared.row.Row.{Row}
-use Rattle.market.specs.Combinations.{size, is_minus, divisor, parts, turns, ratio_of, reduced, normal, count_fits, neighbours, rises, is_nonzero, small, near, signs_fit, broken_leg, made, same_leg, same_legs, NoneMade, Rising, Normal, Spread, Listed, SoundTable}
+use Rattle.market.specs.Combinations.{size, is_minus, divisor, parts, turns, ratio_of, reduced_leg, normal, count_fits, neighbours, rises, is_nonzero, small, near, signs_fit, broken_leg, made, same_leg, same_legs, NoneMade, Rising, Normal, Spread, Listed, SoundTable}
 use Rattle.market.specs.BookCalls.{BookState}
 use Rattle.market.specs.Endings.{Ending, refused, done, Outcome, close, Follows}
 use Rattle.market.specs.Tables.{unless, first_broken}
@@ -132,10 +132,10 @@ spread (l ∷ m ∷ []) k h nonzero =
     let d : ℕ = divisor (l ∷ m ∷ []) in
     let t : Bool = is_minus l in
     let some = normal_nonzero (l ∷ m ∷ []) (omega arith) nonzero in
-    let sold : 1 ≤ size (reduced d t m) = All-head (λ l. 1 ≤ size l) (reduced d t m) [] (All-tail (λ l. 1 ≤ size l) (reduced d t l) (reduced d t m ∷ []) some) in
+    let sold : 1 ≤ size (reduced_leg d t m) = All-head (λ l. 1 ≤ size l) (reduced_leg d t m) [] (All-tail (λ l. 1 ≤ size l) (reduced_leg d t l) (reduced_leg d t m ∷ []) some) in
     record {
-      bought = reduced d t l;
-      sold = reduced d t m;
+      bought = reduced_leg d t l;
+      sold = reduced_leg d t m;
       two = refl;
       plus = turned_plus t (size l / d);
       minus = subst (λ s. int_lt (ratio_of s (size m / d)) (pos 0) ≡ true) (sym (differ t (is_minus m) h)) (minus-ratio_of (size m / d) (omega (arith, size-reduced d t m)));
@@ -154,16 +154,16 @@ module _ (product : Product) (legs : List Leg) (h : Shaped product legs) where
 
   pub has_form : Normal (normal legs)
   has_form = let g : ℕ = divisor legs in let t : Bool = turns legs in record {
-    least = omega (arith, length-map legs (reduced g t), many.0);
-    most = omega (arith, length-map legs (reduced g t), many.1);
-    rising = neighbours_kept (reduced g t) (λ l. refl) legs h.rising;
+    least = omega (arith, length-map legs (reduced_leg g t), many.0);
+    most = omega (arith, length-map legs (reduced_leg g t), many.1);
+    rising = neighbours_kept (reduced_leg g t) (λ l. refl) legs h.rising;
     plus = plus_first legs;
     none_zero = normal_nonzero legs (omega (arith, many.0)) nonzero;
-    small = All-map (λ l. size l ≤ 10) (reduced g t) legs (All-weaker (λ l. size l / g ≤ 10) (λ l. size (reduced g t l) ≤ 10) (λ l k. omega (arith, size-reduced g t l)) legs parts_small);
-    near = All-map (λ l. All (λ m. size l ≤ 4 * size m) (normal legs)) (reduced g t) legs
-        (All-weaker (λ l. near (parts legs) (size l / g) ≡ true) (λ l. All (λ m. size (reduced g t l) ≤ 4 * size m) (normal legs))
-        (λ l k. All-map (λ m. size (reduced g t l) ≤ 4 * size m) (reduced g t) legs
-        (All-weaker (λ m. leb (size l / g) (4 * (size m / g)) ≡ true) (λ m. size (reduced g t l) ≤ 4 * size (reduced g t m))
+    small = All-map (λ l. size l ≤ 10) (reduced_leg g t) legs (All-weaker (λ l. size l / g ≤ 10) (λ l. size (reduced_leg g t l) ≤ 10) (λ l k. omega (arith, size-reduced g t l)) legs parts_small);
+    near = All-map (λ l. All (λ m. size l ≤ 4 * size m) (normal legs)) (reduced_leg g t) legs
+        (All-weaker (λ l. near (parts legs) (size l / g) ≡ true) (λ l. All (λ m. size (reduced_leg g t l) ≤ 4 * size m) (normal legs))
+        (λ l k. All-map (λ m. size (reduced_leg g t l) ≤ 4 * size m) (reduced_leg g t) legs
+        (All-weaker (λ m. leb (size l / g) (4 * (size m / g)) ≡ true) (λ m. size (reduced_leg g t l) ≤ 4 * size (reduced_leg g t m))
         (λ m e. grind (arith, nat_tests, size-reduced g t l, size-reduced g t m)) legs
         (unmapped (λ n. leb (size l / g) (4 * n) ≡ true) (λ m. size m / g) legs (AllPass-from_list_all (λ n. leb (size l / g) (4 * n)) (parts legs) k))))
         legs (unmapped (λ n. near (parts legs) n ≡ true) (λ l. size l / g) legs h.near));
@@ -174,7 +174,7 @@ module _ (product : Product) (legs : List Leg) (h : Shaped product legs) where
   has_signs f = spread legs (let two : count_fits Futures (length legs) ≡ true = rw f at h.count in grind (arith, nat_tests)) (rw f at h.signs) nonzero
 
 has_instruments : (v : View) (legs : List Leg) → Fit v legs → Listed v.bands (normal legs)
-has_instruments v legs h = All-map (λ l. (1 ≤ l.instrument) × (l.instrument ≤ length v.bands)) (reduced (divisor legs) (turns legs)) legs
+has_instruments v legs h = All-map (λ l. (1 ≤ l.instrument) × (l.instrument ≤ length v.bands)) (reduced_leg (divisor legs) (turns legs)) legs
     (λ i l at. known_within v.bands (get_or legs i l).instrument (h.known i l at))
 
 -- ---- the combinations after it

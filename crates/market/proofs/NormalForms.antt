@@ -8,7 +8,7 @@ use Rattle.std.proofs.lemmas.List.Elements.{All-nil, All-cons, All-head, All-tai
 use Rattle.std.proofs.lemmas.Nat.Gcd.{dvd-zero, dvd_trans, IsGcd-from_zero, IsGcd-from_mod}
 use Rattle.std.proofs.Math.Nat.{mod-lt, mul_comm, div-one, div-mul_cancel}
 use Rattle.market.specs.declared.leg.Leg.{Leg}
-use Rattle.market.specs.Combinations.{size, is_minus, divisor, turns, ratio_of, reduced, normal}
+use Rattle.market.specs.Combinations.{size, is_minus, divisor, turns, ratio_of, reduced_leg, normal}
 use Rattle.market.specs.NormalForms.{EveryNormalForm}
 use Rattle.market.proofs.Making.{plus_first}
 use Rattle.market.proofs.Ratios.{Divides, Nonzero, divisor_is, divisor_some, divisor_divides, quotient_some, normal_nonzero, normal_undivided}
@@ -50,37 +50,37 @@ sized : (z : ℤ) → ratio_of (int_lt z (pos 0)) (unsigned_abs z) ≡ z
 sized (pos n) = let plus : int_lt (pos n) (pos 0) ≡ false = grind (arith, nat_tests) in rw plus refl
 sized (negsuc n) = refl
 
-instruments_kept : (d : ℕ) (t : Bool) (legs : List Leg) → map (λ l. l.instrument) legs ≡ map (λ l. l.instrument) (map (reduced d t) legs)
+instruments_kept : (d : ℕ) (t : Bool) (legs : List Leg) → map (λ l. l.instrument) legs ≡ map (λ l. l.instrument) (map (reduced_leg d t) legs)
 instruments_kept d t [] = refl
 instruments_kept d t (l ∷ legs) = ap (λ is. l.instrument ∷ is) (instruments_kept d t legs)
 
 module _ (d : ℕ) (t : Bool) (some : 1 ≤ d) where
-  ratio_times : (l : Leg) → size l / d * d ≡ size l → 1 ≤ size l → l.ratio ≡ ratio_of t d *ℤ (reduced d t l).ratio
+  ratio_times : (l : Leg) → size l / d * d ≡ size l → 1 ≤ size l → l.ratio ≡ ratio_of t d *ℤ (reduced_leg d t l).ratio
   ratio_times l whole h = sym (sized l.ratio) ∙ ap (ratio_of (is_minus l)) (sym whole) ∙ sign_times t (is_minus l) d (size l / d) some (quotient_some (size l / d) d (size l) whole h)
 
-  ratios_times : (legs : List Leg) → Divides d legs → Nonzero legs → map (λ l. l.ratio) legs ≡ map (λ l. ratio_of t d *ℤ l.ratio) (map (reduced d t) legs)
+  ratios_times : (legs : List Leg) → Divides d legs → Nonzero legs → map (λ l. l.ratio) legs ≡ map (λ l. ratio_of t d *ℤ l.ratio) (map (reduced_leg d t) legs)
   ratios_times [] k h = refl
   ratios_times (l ∷ legs) k h =
-      let first : l.ratio ≡ ratio_of t d *ℤ (reduced d t l).ratio = ratio_times l (div-mul_cancel d (All-head (λ m. d ∣ size m) l legs k)) (All-head (λ m. 1 ≤ size m) l legs h) in
+      let first : l.ratio ≡ ratio_of t d *ℤ (reduced_leg d t l).ratio = ratio_times l (div-mul_cancel d (All-head (λ m. d ∣ size m) l legs k)) (All-head (λ m. 1 ≤ size m) l legs h) in
       let rest = ratios_times legs (All-tail (λ m. d ∣ size m) l legs k) (All-tail (λ m. 1 ≤ size m) l legs h) in
-      ap (λ z. z ∷ map (λ m. m.ratio) legs) first ∙ ap (λ zs. (ratio_of t d *ℤ (reduced d t l).ratio) ∷ zs) rest
+      ap (λ z. z ∷ map (λ m. m.ratio) legs) first ∙ ap (λ zs. (ratio_of t d *ℤ (reduced_leg d t l).ratio) ∷ zs) rest
 
 -- ---- the normal form of a normal form
 
 abbrev leg_of : ℕ → ℤ → Leg
 leg_of i r = record { instrument = i; ratio = r }
 
-undivided_leg : (l : Leg) → reduced 1 false l ≡ l
+undivided_leg : (l : Leg) → reduced_leg 1 false l ≡ l
 undivided_leg l = ap (leg_of l.instrument) (ap (ratio_of (is_minus l)) (div-one (size l)) ∙ sized l.ratio)
 
-undivided_legs : (legs : List Leg) → map (reduced 1 false) legs ≡ legs
+undivided_legs : (legs : List Leg) → map (reduced_leg 1 false) legs ≡ legs
 undivided_legs [] = refl
-undivided_legs (l ∷ legs) = ap (λ m. m ∷ map (reduced 1 false) legs) (undivided_leg l) ∙ ap (λ ms. l ∷ ms) (undivided_legs legs)
+undivided_legs (l ∷ legs) = ap (λ m. m ∷ map (reduced_leg 1 false) legs) (undivided_leg l) ∙ ap (λ ms. l ∷ ms) (undivided_legs legs)
 
 settled_form : (legs : List Leg) → 1 ≤ length legs → Nonzero legs → normal (normal legs) ≡ normal legs
 settled_form legs some h =
     let one : divisor (normal legs) ≡ 1 = normal_undivided legs some h (divisor (normal legs)) (divisor_divides (normal legs) (normal_nonzero legs some h)) in
-    ap (λ d. map (reduced d (turns (normal legs))) (normal legs)) one ∙ ap (λ t. map (reduced 1 t) (normal legs)) (plus_first legs) ∙ undivided_legs (normal legs)
+    ap (λ d. map (reduced_leg d (turns (normal legs))) (normal legs)) one ∙ ap (λ t. map (reduced_leg 1 t) (normal legs)) (plus_first legs) ∙ undivided_legs (normal legs)
 
 pub every_normal_form : EveryNormalForm
 every_normal_form legs some h = record {

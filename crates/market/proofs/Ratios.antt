@@ -11,7 +11,7 @@ use Rattle.std.proofs.lemmas.List.{length-map}
 use Rattle.std.proofs.lemmas.Nat.Gcd.{le_of_dvd, dvd_of_mod-eq-zero, mod-eq-zero_of_dvd}
 use Rattle.std.proofs.Math.Nat.{div-mul_cancel, mul-dvd-mul_right, one-dvd, pos_of_dvd_of_pos, le_of_mul-le-mul_right}
 use Rattle.market.specs.declared.leg.Leg.{Leg}
-use Rattle.market.specs.Combinations.{size, is_minus, divides_all, greatest_up_to, divisor, turns, ratio_of, reduced, normal}
+use Rattle.market.specs.Combinations.{size, is_minus, divides_all, greatest_up_to, divisor, turns, ratio_of, reduced_leg, normal}
 
 -- ---- the greatest common divisor
 
@@ -85,7 +85,7 @@ pub minus-ratio_of : (n : ℕ) → 1 ≤ n → int_lt (ratio_of true n) (pos 0) 
 minus-ratio_of zero h = absurd (omega arith)
 minus-ratio_of (suc n) h = refl
 
-pub size-reduced : (d : ℕ) (turn : Bool) (l : Leg) → size (reduced d turn l) ≡ size l / d
+pub size-reduced : (d : ℕ) (turn : Bool) (l : Leg) → size (reduced_leg d turn l) ≡ size l / d
 size-reduced d turn l = size-ratio_of (cond turn (not (is_minus l)) (is_minus l)) (size l / d)
 
 -- what holds of every element of a list that is mapped
@@ -102,15 +102,15 @@ module _ (legs : List Leg) (some : 1 ≤ length legs) (h : Nonzero legs) where
   whole = All-weaker (λ l. divisor legs ∣ size l) (λ l. size l / divisor legs * divisor legs ≡ size l) (λ l k. div-mul_cancel (divisor legs) k) legs (divisor_divides legs h)
 
   pub normal_nonzero : Nonzero (normal legs)
-  normal_nonzero = All-map (λ l. 1 ≤ size l) (reduced (divisor legs) (turns legs)) legs
+  normal_nonzero = All-map (λ l. 1 ≤ size l) (reduced_leg (divisor legs) (turns legs)) legs
       (λ i l at. omega (arith, size-reduced (divisor legs) (turns legs) (get_or legs i l), quotient_some _ (divisor legs) _ (whole i l at) (h i l at)))
 
   -- the ratios of the normal form have no common divisor above 1
   pub normal_undivided : (d : ℕ) → Divides d (normal legs) → d ≡ 1
   normal_undivided d k =
       let g : ℕ = divisor legs in
-      let parts = unmapped (λ l. d ∣ size l) (reduced g (turns legs)) legs k in
+      let parts = unmapped (λ l. d ∣ size l) (reduced_leg g (turns legs)) legs k in
       let all : Divides (d * g) legs = λ i l at. subst (λ n. d * g ∣ n) (whole i l at) (mul-dvd-mul_right d (subst (λ n. d ∣ n) (size-reduced g (turns legs) (get_or legs i l)) (parts i l at)) g) in
       let low : d * g ≤ 1 * g = omega (arith, divisor_above legs some h (d * g) all) in
       let one : d ≤ 1 = le_of_mul-le-mul_right low (divisor_some legs some h) in
-      omega (arith, divisor_positive d (normal legs) (omega (arith, length-map legs (reduced g (turns legs)))) normal_nonzero k)
+      omega (arith, divisor_positive d (normal legs) (omega (arith, length-map legs (reduced_leg g (turns legs)))) normal_nonzero k)

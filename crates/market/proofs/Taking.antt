@@ -60,7 +60,7 @@ lot_of_traded : (i q : ℕ) → trades (book_number (lot_book (lot_of i q))) (bo
 lot_of_traded i q = cond_both (ltb i 1001) _ _ (λ l. trades (book_number (lot_book l)) (book_kind (lot_book l)) ≡ true) (λ e. rw e refl) (λ e. rw e refl)
 
 lot_of_exists : (v : View) (i q : ℕ) → tradable v i ≡ true → Exists v.combinations (lot_book (lot_of i q))
-lot_of_exists v i q h = cond_both (ltb i 1001) _ _ (λ l. Exists v.combinations (lot_book l)) (λ e. ltb-true i 1001 e)
+lot_of_exists v i q h = cond_both (ltb i 1001) _ _ (λ l. Exists v.combinations (lot_book l)) (λ e. e)
     (λ e. exists_made v.combinations i (sym (cond-false (ltb i 1001) (known (band_of v.bands i)) (exists v.combinations i) e) ∙ h))
 
 -- ---- what a call does

@@ -8,6 +8,7 @@ use Rattle.market.specs.declared.leg.Leg.{Leg}
 use Rattle.market.specs.declared.product.Band.{Band}
 use Rattle.market.specs.declared.product.Product.{Product}
 use Rattle.market.specs.declared.product.Product.TheVariants.{Futures, Options}
+use Rattle.market.specs.Orders.{is_instrument}
 use Rattle.market.specs.Tables.{unless, topmost, first_broken}
 
 -- ---- ratios
@@ -48,12 +49,12 @@ abbrev pub parts : List Leg → List ℕ
 parts legs = map (λ l. size l / divisor legs) legs
 
 -- the leg with its ratio divided, and the sign turned or not
-abbrev pub reduced : ℕ → Bool → Leg → Leg
-reduced d turn l = record { instrument = l.instrument; ratio = ratio_of (cond turn (not (is_minus l)) (is_minus l)) (size l / d) }
+abbrev pub reduced_leg : ℕ → Bool → Leg → Leg
+reduced_leg d turn l = record { instrument = l.instrument; ratio = ratio_of (cond turn (not (is_minus l)) (is_minus l)) (size l / d) }
 
 -- the normal form: the ratios are divided by their greatest common divisor, and then all signs turn if the first is minus
 abbrev pub normal : List Leg → List Leg
-normal legs = map (reduced (divisor legs) (turns legs)) legs
+normal legs = map (reduced_leg (divisor legs) (turns legs)) legs
 
 -- ---- what is refused
 
@@ -102,9 +103,9 @@ broken_leg product legs = topmost (
 
 -- ---- the combinations of a venue
 
--- the legs of a combination: they are numbered from 1001 as they are made
+-- the legs of the combination of a number, where it exists: the first made has the number 1001, and so on
 abbrev pub made : List (List Leg) → ℕ → Option (List Leg)
-made cs c = cond (nat_lt c 1001) None (slice_get cs (c - 1001))
+made cs c = cond (is_instrument c) None (slice_get cs (c - 1001))
 
 -- there is such a combination
 abbrev pub exists : List (List Leg) → ℕ → Bool

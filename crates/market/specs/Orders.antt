@@ -19,9 +19,13 @@ abbrev pub lot_size : Lot → ℕ
 lot_size (Outright i q) = q.0
 lot_size (Combined c q) = q.0
 
--- so many contracts of an instrument, or units of a combination: combinations are numbered from 1001
+-- the number is one for an instrument: combinations are numbered from 1001
+abbrev pub is_instrument : ℕ → Bool
+is_instrument i = nat_lt i 1001
+
+-- so many contracts of an instrument, or units of a combination
 abbrev pub lot_of : ℕ → ℕ → Lot
-lot_of i q = cond (nat_lt i 1001) (Outright i (record { 0 = q })) (Combined i (record { 0 = q }))
+lot_of i q = cond (is_instrument i) (Outright i (record { 0 = q })) (Combined i (record { 0 = q }))
 
 -- the lot with another size
 abbrev pub sized_lot : Lot → ℕ → Lot

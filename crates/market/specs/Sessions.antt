@@ -17,7 +17,7 @@ use Rattle.market.specs.declared.side.Side.TheVariants.{Buy, Sell}
 use Rattle.market.specs.Combinations.{made, SoundTable}
 use Rattle.market.specs.Endings.{Follows}
 use Rattle.market.specs.Ladders.{leg_side, contracts_for, net}
-use Rattle.market.specs.Orders.{lot_book, quantity_of, book_number}
+use Rattle.market.specs.Orders.{is_instrument, lot_book, quantity_of, book_number}
 use Rattle.market.specs.Prices.{good, as_price}
 use Rattle.market.specs.Round.{eligible}
 use Rattle.market.specs.Venues.{View, fresh, Takes}
@@ -61,7 +61,7 @@ names n row = row.buyer == n || row.seller == n
 
 -- rows that trade an order in the book of this number: contract trades for an instrument, combination trades for a combination
 abbrev pub trades : ℕ → RowKind → Bool
-trades i k = cond (nat_lt i 1001) (is_trade k) (is_combination k)
+trades i k = cond (is_instrument i) (is_trade k) (is_combination k)
 
 -- what the rows of a kind say of the order n
 abbrev pub counted : (RowKind → Bool) → ℕ → List Row → ℕ
@@ -155,9 +155,9 @@ pub record LegTraded (leg : Leg) (t : Row) (rows : List Row) : Type 0 where
   pub quantity : sum_by (λ row. row.quantity) rows ≡ contracts_for leg t.quantity
   pub named : All (λ row. Names (leg_side Buy leg) t.buyer row × Names (leg_side Sell leg) t.seller row) rows
 
--- the combination that a book is for exists; an instrument is numbered below 1001
+-- the combination that a book is for exists; an instrument has the number of one
 abbrev pub Exists : List (List Leg) → BookId → Type 0
-Exists cs (Instrument i) = i < 1001
+Exists cs (Instrument i) = is_instrument i ≡ true
 Exists cs (Combination c) = (legs : List Leg) × (made cs c ≡ Some legs)
 
 -- messages of any kind, by how they are read

@@ -24,7 +24,7 @@ use Rattle.market.specs.declared.side.Side.{Side}
 use Rattle.market.specs.BookCalls.{BookState, Enters, Cancels, withdrawn}
 use Rattle.market.specs.Combinations.{normal, turns, broken_leg, exists, same_legs, NoneMade, FirstMade}
 use Rattle.market.specs.Endings.{Ending, refused, done}
-use Rattle.market.specs.Orders.{own, lot_of}
+use Rattle.market.specs.Orders.{own, is_instrument, lot_of}
 use Rattle.market.specs.Tables.{unless, topmost, first_broken}
 
 -- what a venue is: its product, its phase, a price band for each instrument, the legs of each combination in the order in which they were made, and its book
@@ -73,9 +73,9 @@ abbrev pub within_band : Option Band → Price → Bool
 within_band None p = false
 within_band (Some b) p = int_le (pos b.low) p.0 && int_le p.0 (pos b.high)
 
--- there is such an instrument or combination: combinations are numbered from 1001
+-- there is such an instrument or combination
 abbrev pub tradable : View → ℕ → Bool
-tradable v i = cond (nat_lt i 1001) (known (band_of v.bands i)) (exists v.combinations i)
+tradable v i = cond (is_instrument i) (known (band_of v.bands i)) (exists v.combinations i)
 
 -- a net price lies from -99,999,900 to 99,999,900
 abbrev pub within_net_band : Price → Bool
@@ -83,7 +83,7 @@ within_net_band p = int_le (neg_ℤ (pos 99999900)) p.0 && int_le p.0 (pos 99999
 
 -- the price of an order lies in the instrument's band, a net price in that of net prices
 abbrev pub price_fits : View → ℕ → Price → Bool
-price_fits v i p = cond (nat_lt i 1001) (within_band (band_of v.bands i) p) (within_net_band p)
+price_fits v i p = cond (is_instrument i) (within_band (band_of v.bands i) p) (within_net_band p)
 
 -- some resting order is the participant's own of that number, quotes apart
 abbrev pub owned : ℕ → ℕ → List Order → Bool

@@ -35,6 +35,13 @@ use std::alloc::Global;
 // The most contracts or units that an order may be for.
 const MOST_ENTERED: u32 = 10_000;
 
+// The fields of an enter line with the instrument or combination, the quantity and the price.
+const BOOK_PLACE: u32 = 2;
+
+const QUANTITY_PLACE: u32 = 4;
+
+const PRICE_PLACE: u32 = 5;
+
 // A refusal also blanks the report, so that `?` alone would not do where a call is refused here.
 impl<R: AllocationRule> Venue<R> {
     // A venue in Pre Open with no order, or a refusal where a band is broken; memory is taken only once the bands are judged sound.
@@ -74,7 +81,7 @@ impl<R: AllocationRule> Venue<R> {
         if book < FIRST_COMBINATION {
             self.listing.trading.knows(book)
         } else {
-            self.listing.combinations.exist(book)
+            self.listing.combinations.contains(book)
         }
     }
 
@@ -96,12 +103,15 @@ impl<R: AllocationRule> Venue<R> {
     {
         unless(self.listing.trading.open(), Refusal::Phase)?;
         check_participant(entry.participant)?;
-        unless(self.knows(entry.book), Refusal::Unknown(2))?;
+        unless(self.knows(entry.book), Refusal::Unknown(BOOK_PLACE))?;
         unless(
             (1..=MOST_ENTERED).contains(&entry.quantity),
-            Refusal::Quantity(4),
+            Refusal::Quantity(QUANTITY_PLACE),
         )?;
-        unless(self.price_fits(entry.book, entry.price), Refusal::Price(5))
+        unless(
+            self.price_fits(entry.book, entry.price),
+            Refusal::Price(PRICE_PLACE),
+        )
     }
 
     fn enter(&mut self, entry: Entry, report: &mut [Row]) -> Result<(u32, u32), Refusal>
@@ -164,7 +174,7 @@ impl<R: AllocationRule> Venue<R> {
             Ok(request) => request,
             Err(refusal) => return refuse(report, refusal),
         };
-        let Some(combination) = self.listing.combinations.number(request) else {
+        let Some(combination) = self.listing.combinations.find_or_make(request) else {
             return refuse(report, Refusal::CombinationsSpent);
         };
         report.fill(Row::blank());

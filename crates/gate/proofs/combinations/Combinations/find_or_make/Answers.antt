@@ -5,7 +5,7 @@ use Rattle.market.specs.declared.leg.Leg.{Leg}
 use Rattle.market.specs.Combinations.{same_legs}
 use Rattle.gate.specs.Made.{all_legs, Numbers}
 use Rattle.gate.proofs.Numbering.{finds, spends, adds}
-use Rattle.gate.proofs.combinations.Combinations.number.Goals as goal
+use Rattle.gate.proofs.combinations.Combinations.find_or_make.Goals as goal
 
 -- the legs of a combination
 abbrev legs_of : Combination → List Leg
