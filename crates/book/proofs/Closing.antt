@@ -9,10 +9,9 @@ use Rattle.market.specs.declared.order.Order.{Order}
 use Rattle.market.specs.declared.phase.Withdrawal.{Withdrawal}
 use Rattle.market.specs.declared.refusal.Refusal.{Refusal}
 use Rattle.market.specs.declared.row.Row.{Row}
-use Rattle.market.specs.BookCalls.{BookState, Matches, Enters, Cancels, taken_out, leaves, withdrawn}
+use Rattle.market.specs.BookCalls.{BookState, Enters, Cancels, taken_out, leaves, withdrawn}
 use Rattle.market.specs.BookCalls.Enters.{settled}
 use Rattle.market.specs.Endings.{Effect, Ending, done, refused, Follows}
-use Rattle.market.specs.Matching.{Match}
 use Rattle.market.specs.Orders.{arriving, lot_book, lot_size, own, quantity_of}
 use Rattle.market.specs.Round.{legs_of}
 use Rattle.market.specs.Rows.{blank, cancel_row}
@@ -24,7 +23,8 @@ use Rattle.book.specs.Reports.{Holds, Tells}
 use Rattle.book.specs.Rounds.{Rounded}
 use Rattle.book.specs.Settling.{Settled, SettledAt, Settling}
 use Rattle.book.proofs.Reports.{blank_long}
-use Rattle.book.proofs.Finding.{around, found_first, found_own, found_inside}
+use Rattle.book.proofs.Settling.{as_matches}
+use Rattle.book.proofs.Finding.{around, found_first, found_passes, found_inside}
 
 -- a call may take this effect, and its rows are told
 pub record Ready (Allowed : Ending BookState → Type 0) (accepted : Acceptance) (after : BookState) (t : Told) : Type 0 where
@@ -33,8 +33,8 @@ pub record Ready (Allowed : Ending BookState → Type 0) (accepted : Acceptance)
   pub holds : Holds t told
 
 module _ (Allowed : Ending BookState → Type 0) (m : BookState) (room : ℕ) where
-  pub follows_refused : (e : Refusal) (answer : Result (ℕ × ℕ) Refusal) (t : Told) (rows : List Row) → answer ≡ Err e → Allowed (refused e) → rows ≡ t.rows.now → t.rows.now ≡ blank room → Follows Allowed m room answer rows m
-  follows_refused e answer t rows answered allowed is wiped = record { ending = refused e; allowed = allowed; answered = answered; reported = is ∙ wiped; left = refl }
+  pub follows_refused : (e : Refusal) (answer : Result (ℕ × ℕ) Refusal) (told rows : List Row) → answer ≡ Err e → Allowed (refused e) → rows ≡ told → told ≡ blank room → Follows Allowed m room answer rows m
+  follows_refused e answer told rows answered allowed is wiped = record { ending = refused e; allowed = allowed; answered = answered; reported = is ∙ wiped; left = refl }
 
   pub follows_closed : (accepted : Acceptance) (os : List Order) (next : ℕ) (t : Told) (answer : Result (ℕ × ℕ) Refusal) (t' : Told) (rows : List Row) (after : BookState) (t₀ : Told) → t₀.rows.now ≡ blank room → length t.rows.now ≡ length t₀.rows.now → rows ≡ t'.rows.now
       → Ready Allowed accepted (record { orders = os; next = next }) t → Closes m accepted os next t answer t' after → Follows Allowed m room answer rows after
@@ -51,12 +51,9 @@ module _ (shares : List ℕ → ℕ → List ℕ) (cs : List (List Leg)) (a : Ar
 
   pub settled_by : (legs : Option (List Leg)) (o : Order) (os₀ : List Order) (t₀ : Told) (at : Progress) (os : List Order) (t : Told) (r : Result Progress Refusal) (os' : List Order) (t' : Told)
       → legs ≡ legs_of cs (lot_book a.lot) → o ≡ arriving a n → os₀ ≡ before → n ≤ 99999
-      → Matched shares legs o os₀ t₀ at.next_fill at.left os t → Holds t₀ [] → Settling before n a at os t r os' t' → Settled shares cs state a r os' t'
+      → Matched shares legs o 1 os₀ t₀ at.next_fill at.left os t → Holds t₀ [] → Settling before n a at os t r os' t' → Settled shares cs state a r os' t'
   settled_by legs o os₀ t₀ at os t r os' t' of is same few m start settling =
-      let run : Matches shares cs state a m.rows at.next_fill at.left os =
-      subst (λ (l : Option (List Leg)). Match shares l (arriving a n) 1 (lot_size a.lot) before m.rows at.next_fill at.left os) of
-      (subst (λ (x : Order). Match shares legs x 1 (quantity_of x) before m.rows at.next_fill at.left os) is
-      (subst (λ (xs : List Order). Match shares legs o 1 (quantity_of o) xs m.rows at.next_fill at.left os) same m.run)) in
+      let run = as_matches shares cs 1 state a legs o os₀ m.rows at.next_fill at.left os of is same m.run in
       settling.settled shares cs m.rows few run (m.more.holds [] start)
 
   pub enters_ready : (at : Progress) (os : List Order) (t : Told) (os' : List Order) (t' : Told) (traded : ℕ) → n ≤ 99999 → SettledAt shares cs state a at os t → Rounded shares cs at.next_fill os t os' t' → traded ≡ lot_size a.lot - at.left
@@ -73,7 +70,7 @@ pub cancel_ready : (m : BookState) (p n i : ℕ) (o d : Order) (row : Row) (quan
 cancel_ready m p n i o d row quantity os t t' found is told-row size left start more = record {
   told = row ∷ [];
   allowed = subst (λ (e : Effect BookState). Cancels m p n (done e)) (sym (λ j. record { accepted = Cancelled n ((size ∙ ap quantity_of is) j); rows = (told-row ∙ ap cancel_row is) j ∷ []; after = record { orders = left j; next = m.next } }))
-      (taken_out (take i m.orders) (get_or m.orders i d) (drop (suc i) m.orders) (around m.orders i d (found_inside p n m.orders i d found)) (found_first p n m.orders i d found) (found_own p n m.orders i d found));
+      (taken_out (take i m.orders) (get_or m.orders i d) (drop (suc i) m.orders) (around m.orders i d (found_inside (own p n) m.orders i d found)) (found_first (own p n) m.orders i d found) (found_passes (own p n) m.orders i d found));
   holds = more.holds [] start;
 }
 

@@ -15,8 +15,8 @@ use Rattle.market.specs.Implied.{Taken, LegsTaken}
 use Rattle.market.specs.Implied.LegsTaken.{no_leg, next_leg}
 use Rattle.market.specs.Ladders.{ladder, leg_side, contracts_for}
 use Rattle.market.specs.Orders.{same_book}
+use Rattle.market.proofs.LegRows.{rising_tail, rising_above}
 use Rattle.market.proofs.TakenLadders.{taken_elsewhere}
-use Rattle.market.proofs.LaidOut.{rising_rest, rising_above}
 use Rattle.book.specs.declared.taker.Taker.{Taker}
 use Rattle.book.specs.declared.told.Told.{Told}
 use Rattle.book.specs.Reports.{Tells}
@@ -77,7 +77,7 @@ module _ (shares : List ℕ → ℕ → List ℕ) (taker : Taker) (legs : List L
       more = tells_then t₀ t t' g.told h.rows g.more h.more;
       goes = λ newer os'' k. subst (λ (xs : List Row). Takes legs os₀ xs os'') (sym (append_assoc g.told h.rows newer))
           (g.goes (h.rows ++ newer) os'' (subst (λ (ls : List Leg). Takes ls os (h.rows ++ newer) os'') (sym parts) (next_leg h.takes k)));
-      rising = rising_rest leg (drop (i + 1) legs) rising_all;
+      rising = rising_tail leg (drop (i + 1) legs) rising_all;
       enough = still_offered shares laws taker.fill taker.number taker.side (leg_side taker.side leg) u (contracts_for leg u) leg os os' h.rows h.takes (drop (i + 1) legs) (rising_above leg (drop (i + 1) legs) rising_all)
           (All-tail (λ x. contracts_for x u ≤ length (ladder (Instrument x.instrument) (leg_side taker.side x) os)) leg (drop (i + 1) legs) offered_all);
     }

@@ -2,10 +2,9 @@
 use Rattle.std.proofs.Common.{◌≡◌, ℕ, ◌+◌, ◌<◌, Bool, true, false, cond, List, [], ◌∷◌, ◌++◌, map, length, get_or, take, pos, Some, None, filter, Option, Bor, sym, refl, ap, ◌∙◌, subst, arith}
 use Rattle.std.proofs.lemmas.List.Elements.{All-nil, All-push, filter_more}
 use Rattle.std.proofs.lemmas.List.Quantifiers.{Any-push}
-use Rattle.std.proofs.lemmas.List.{map-append, append-nil, append_assoc, length-append, get_or_append_left}
-use Rattle.std.proofs.lemmas.Int.{ints}
+use Rattle.std.proofs.lemmas.List.{map-append, append-nil, append_assoc}
 use Rattle.std.proofs.lemmas.Bool.{both_ways, cond_both}
-use Rattle.std.specs.List.{fold, Any}
+use Rattle.std.specs.List.{fold}
 use Rattle.std.specs.Option.{MatchOption}
 use Rattle.rules.specs.Domain.{total}
 use Rattle.market.specs.declared.book_id.BookId.{BookId}
@@ -13,11 +12,13 @@ use Rattle.market.specs.declared.order.Lot.TheVariants.{Outright}
 use Rattle.market.specs.declared.order.Order.{Order}
 use Rattle.market.specs.declared.price.Price.{Price}
 use Rattle.market.specs.declared.side.Side.{Side}
-use Rattle.market.specs.declared.side.Side.TheVariants.{Buy, Sell}
+use Rattle.market.specs.declared.side.Side.TheVariants.{Buy}
 use Rattle.market.specs.Fills.{BestLevel}
 use Rattle.market.specs.Levels.{in_level, level, quantities}
 use Rattle.market.specs.Orders.{stands, quantity_of}
 use Rattle.market.specs.Prices.{opposite, good}
+use Rattle.market.proofs.Lists.{any_left}
+use Rattle.market.proofs.Places.{good_refl, good_trans, good_total}
 use Rattle.book.specs.Best.{better, best_among}
 
 -- the order that a read past the end would give
@@ -63,19 +64,6 @@ from_none : (s : Side) (ps : List Price) → fold (better_of s) None ps ≡ best
 from_none s [] = refl
 from_none s (p ∷ ps) = from_first s p ps
 
-good_self : (s : Side) (p : Price) → good s p p ≡ true
-good_self Buy p = grind (arith, ints)
-good_self Sell p = grind (arith, ints)
-
--- where q is not at least as good as p, p is better than all that q was
-good-over : (s : Side) (p q r : Price) → good s q p ≡ false → good s q r ≡ true → good s p r ≡ true
-good-over Buy p q r h k = grind (arith, ints)
-good-over Sell p q r h k = grind (arith, ints)
-
--- what some order has, some order of a longer list has
-any_left : {X : Type 0} (P : X → Type 0) (xs ys : List X) → Any P xs → Any P (xs ++ ys)
-any_left P xs ys h = (h.0, h.1, omega (arith, length-append xs ys), get_or_append_left xs ys h.1 h.0 h.2 ∙ h.3, h.4)
-
 module _ (b : BookId) (s : Side) (os : List Order) (o : Order) where
   abbrev here : Order → Bool
   here = stands b (opposite s)
@@ -96,7 +84,7 @@ module _ (b : BookId) (s : Side) (os : List Order) (o : Order) where
   found_yes : (best : Option Price) → BestLevel b s os best → here o ≡ true → BestLevel b s (os ++ o ∷ []) (better_of s best o.price)
   found_yes None h y = record {
     there = Any-push _ os o (y, refl);
-    none_better = All-push (AsGood o.price) os o (λ i x at t. absurd (both_ways _ (h i x at) t)) (λ _. good_self s o.price);
+    none_better = All-push (AsGood o.price) os o (λ i x at t. absurd (both_ways _ (h i x at) t)) (λ _. good_refl s o.price);
   }
   found_yes (Some q) h y = go (good s q o.price) refl
     where
@@ -107,7 +95,7 @@ module _ (b : BookId) (s : Side) (os : List Order) (o : Order) where
       }
       go false e = record {
         there = Any-push _ os o (y, refl);
-        none_better = All-push (AsGood o.price) os o (λ i x at t. good-over s o.price q _ e (h.none_better i x at t)) (λ _. good_self s o.price);
+        none_better = All-push (AsGood o.price) os o (λ i x at t. good_trans s o.price q _ (good_total s q o.price e) (h.none_better i x at t)) (λ _. good_refl s o.price);
       }
 
 module _ (b : BookId) (s : Side) where

@@ -14,7 +14,12 @@ pub mod Totals
 pub mod Rounding
 pub mod Settling
 pub mod Closing
+pub mod Amending
 pub mod Finding
+pub mod Revising
+pub mod OldSides
+pub mod PlacedSides
+pub mod Quoting
 pub mod Reading
 pub mod UnitReading
 pub mod Runs

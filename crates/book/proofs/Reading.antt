@@ -1,5 +1,5 @@
 -- What is still to come of a ladder that is read level after level.
-use Rattle.std.proofs.Common.{◌≡◌, ℕ, zero, suc, ◌+◌, ◌-◌, ◌<◌, ◌≤◌, Bool, true, List, [], ◌∷◌, ◌++◌, map, length, get_or, take, drop, replicate, append_assoc, length-append, Some, None, filter, Option, sym, refl, ap, ◌∙◌, subst, inl, inr, arith}
+use Rattle.std.proofs.Common.{◌≡◌, ℕ, zero, suc, ◌+◌, ◌-◌, ◌<◌, ◌≤◌, Bool, true, List, [], ◌∷◌, ◌++◌, map, length, get_or, replicate, append_assoc, length-append, Some, None, filter, Option, sym, refl, ap, ◌∙◌, subst, inl, inr, arith}
 use Rattle.std.specs.Prelude.{ℤ, pos, ◌+ℤ◌, ◌*ℤ◌, ◌*◌}
 use Rattle.std.proofs.lemmas.List.{length-replicate, replicate-append-replicate}
 use Rattle.std.specs.List.{All, Any}
@@ -11,20 +11,20 @@ use Rattle.std.proofs.lemmas.List.Elements.{All-nil, All-cons, All-head, All-tai
 use Rattle.rules.specs.Domain.{total}
 use Rattle.market.specs.declared.book_id.BookId.{BookId}
 use Rattle.market.specs.declared.order.Order.{Order}
-use Rattle.market.specs.declared.price.Amount.{Amount}
 use Rattle.market.specs.declared.price.Price.{Price}
 use Rattle.market.specs.declared.side.Side.{Side}
 use Rattle.market.specs.Ladders.{contracts, ladder, ranked, sum_of}
 use Rattle.market.specs.Levels.{level, quantities, Best}
 use Rattle.market.specs.Orders.{stands}
 use Rattle.market.specs.Prices.{opposite, good}
+use Rattle.market.proofs.Lists.{any_behind}
 use Rattle.market.proofs.RankedLadders as market
 use Rattle.market.proofs.RankedLadders.{filter_all}
 use Rattle.market.specs.Fills.{BestLevel}
 use Rattle.book.specs.declared.rung.Rung.{Rung}
 use Rattle.book.specs.Best.{best_among}
 use Rattle.book.specs.Bounds.{Positive}
-use Rattle.book.specs.Reading.{beyond, awaits, levels_beyond, to_come, NextSum, Near, Bounded}
+use Rattle.book.specs.Reading.{beyond, awaits, levels_beyond, to_come, Near, Bounded}
 use Rattle.book.proofs.Bounds.{level_open}
 use Rattle.book.proofs.Levels.{best_found}
 
@@ -39,22 +39,18 @@ passed_all test P (x ∷ xs) a =
       | inr e ↦ let k : All P (filter test xs) = rw e at a in All-cons (λ y. test y ≡ true → P y) x xs (λ t. absurd (both_ways _ e t)) (passed_all test P xs k)
     ]
 
--- one element more in front
-any_later : {X : Type 0} (P : X → Type 0) (x : X) (xs : List X) → Any P xs → Any P (x ∷ xs)
-any_later P x xs (i, y, lt, at, p) = (suc i, y, omega arith, at, p)
-
 -- some element that passes
 passed_any : {X : Type 0} (test : X → Bool) (P : X → Type 0) (xs : List X) → Any P (filter test xs) → Any (λ x. (test x ≡ true) × P x) xs
 passed_any test P [] (i, y, lt, at, p) = absurd (omega arith)
 passed_any {X} test P (x ∷ xs) a =
     elim (cases_Bool (test x)) [
       | inl e ↦ step (passed_any test P xs) e (rw e at a)
-      | inr e ↦ any_later (λ y. (test y ≡ true) × P y) x xs (passed_any test P xs (rw e at a))
+      | inr e ↦ any_behind (λ y. (test y ≡ true) × P y) x xs (passed_any test P xs (rw e at a))
     ]
   where
     step : (Any P (filter test xs) → Any (λ y. (test y ≡ true) × P y) xs) → test x ≡ true → Any P (x ∷ filter test xs) → Any (λ y. (test y ≡ true) × P y) (x ∷ xs)
     step more e (zero, y, lt, at, p) = (0, y, omega arith, at, (ap test (sym at) ∙ e, p))
-    step more e (suc i, y, lt, at, p) = any_later (λ y. (test y ≡ true) × P y) x xs (more (i, y, omega arith, at, p))
+    step more e (suc i, y, lt, at, p) = any_behind (λ y. (test y ≡ true) × P y) x xs (more (i, y, omega arith, at, p))
 
 none_among : (s : Side) (os : List Order) → best_among s (map (λ o. o.price) os) ≡ None → contracts (ranked s os) ≡ []
 none_among s [] h = refl
@@ -158,24 +154,3 @@ reads_more zs i n z rest rest' sum cost sum' r is costs near adds = record {
   adds = adds ∙ ap (λ y. y +ℤ cost) r.adds ∙ ap (λ y. sum_of r.taken +ℤ y) (costs ∙ sym (sum_of_same n z)) ∙ sym (sum_of_append r.taken (replicate n z));
   near = record { high = omega (arith, ints, adds, r.near.high, near.high); low = omega (arith, ints, adds, r.near.low, near.low) };
 }
-
-take_through : (xs ys : List ℤ) → take (length xs) (xs ++ ys) ≡ xs
-take_through [] ys = refl
-take_through (x ∷ xs) ys = ap (λ zs. x ∷ zs) (take_through xs ys)
-
-drop_through : (xs ys : List ℤ) → drop (length xs) (xs ++ ys) ≡ ys
-drop_through [] ys = refl
-drop_through (x ∷ xs) ys = drop_through xs ys
-
--- all that were asked for
-pub reads_all : (zs : List ℤ) (n : ℕ) (rest : List ℤ) (a : Amount) → Reads zs n rest a.0 → NextSum n zs (Some a) rest
-reads_all zs n rest a r = (
-  omega (arith, r.many, ap length r.parts, length-append r.taken rest),
-  r.adds ∙ ap sum_of (sym (ap (take n) r.parts ∙ ap (λ k. take k (r.taken ++ rest)) (sym r.many) ∙ take_through r.taken rest)),
-  sym (ap (drop n) r.parts ∙ ap (λ k. drop k (r.taken ++ rest)) (sym r.many) ∙ drop_through r.taken rest),
-  r.near,
-)
-
--- too few
-pub reads_short : (zs : List ℤ) (i n : ℕ) (rest : List ℤ) (sum : ℤ) → Reads zs i rest sum → rest ≡ [] → i < n → length zs < n
-reads_short zs i n rest sum r is lt = omega (arith, r.many, ap length r.parts, length-append r.taken rest, ap length is)

@@ -1,24 +1,20 @@
 -- The fills of a round.
-use Rattle.std.proofs.Common.{◌≡◌, ℕ, ◌+◌, ◌-◌, ◌≤◌, Bool, false, ◌&&◌, List, [], ◌∷◌, ◌++◌, length, get_or, take, drop, filter, Some, None, Option, sym, refl, ap, ◌∙◌, subst, arith}
+use Rattle.std.proofs.Common.{◌≡◌, ℕ, ◌+◌, ◌≤◌, false, List, [], ◌∷◌, ◌++◌, length, get_or, take, drop, Some, None, Option, sym, refl, ap, ◌∙◌, subst, arith}
 use Rattle.std.specs.List.{All}
-use Rattle.std.proofs.lemmas.Bool.{cond_both, cond-false, and_left}
 use Rattle.std.proofs.lemmas.List.{append_assoc, append-nil}
-use Rattle.std.proofs.lemmas.List.Elements.{All-weaker, filter-append}
-use Rattle.market.specs.declared.book_id.BookId.{BookId}
-use Rattle.market.specs.declared.book_id.BookId.TheVariants.{Instrument, Combination}
+use Rattle.std.proofs.lemmas.List.Elements.{All-weaker}
+use Rattle.market.specs.declared.book_id.BookId.TheVariants.{Instrument}
 use Rattle.market.specs.declared.leg.Leg.{Leg}
 use Rattle.market.specs.declared.order.Order.{Order}
 use Rattle.market.specs.declared.row.Row.{Row}
 use Rattle.market.specs.declared.side.Side.{Side}
 use Rattle.market.specs.Implied.{LegsTaken}
-use Rattle.market.specs.Ladders.{contracts, ranked, ladder, leg_side, contracts_for, net_to, wanted, LongestRun, amount}
-use Rattle.market.specs.Levels.{still_open}
-use Rattle.market.specs.Orders.{lot_book, quantity_of, less, same_book, stands}
-use Rattle.market.specs.Prices.{opposite, same_side}
+use Rattle.market.specs.Ladders.{ladder, leg_side, contracts_for, net_to, wanted, LongestRun, amount}
+use Rattle.market.specs.Orders.{lot_book, quantity_of}
 use Rattle.market.specs.Round.{legs_of, eligible, FirstEligible, left_of, Round}
 use Rattle.market.specs.Round.Round.{over, takes}
 use Rattle.market.specs.Rows.{implied_row}
-use Rattle.market.proofs.Sizes.{lot_book-sized}
+use Rattle.market.proofs.Asides.{no_instrument, ladder_left}
 use Rattle.book.specs.declared.told.Told.{Told}
 use Rattle.book.specs.declared.wanted.Wanted.{Wanted}
 use Rattle.book.specs.Reports.{Tells}
@@ -31,35 +27,11 @@ use Rattle.book.proofs.Totals.{open_in, open_traded, open_legs_taken}
 
 -- ---- what an order of a combination trades leaves the ladders of instruments as they are
 
--- what has legs is no instrument
-no_instrument : (cs : List (List Leg)) (b : BookId) (legs : List Leg) (j : ℕ) → legs_of cs b ≡ Some legs → same_book b (Instrument j) ≡ false
-no_instrument cs (Instrument i) legs j h = absurd (cc)
-no_instrument cs (Combination c) legs j h = refl
-
-module _ (test : Order → Bool) (o : Order) (k : ℕ) (aside : test o ≡ false) (aside' : test (less o k) ≡ false) where
-  left_aside : filter test (left_of o k) ≡ []
-  left_aside = cond_both (still_open (less o k)) (less o k ∷ []) [] (λ (xs : List Order). filter test xs ≡ []) (λ _. cond-false _ _ _ aside') (λ _. refl)
-
-  filter_aside : (ahead behind : List Order) → filter test (ahead ++ left_of o k ++ behind) ≡ filter test (ahead ++ (o ∷ behind))
-  filter_aside ahead behind =
-      filter-append test (ahead ++ left_of o k) behind
-      ∙ ap (λ (xs : List Order). xs ++ filter test behind) (filter-append test ahead (left_of o k) ∙ ap (λ (xs : List Order). filter test ahead ++ xs) left_aside ∙ append-nil (filter test ahead))
-      ∙ sym (filter-append test ahead (o ∷ behind) ∙ ap (λ (xs : List Order). filter test ahead ++ xs) (cond-false _ _ _ aside))
-
 module _ (cs : List (List Leg)) (legs : List Leg) (ahead : List Order) (o : Order) (behind : List Order) (k : ℕ) (of : legs_of cs (lot_book o.lot) ≡ Some legs) where
-  elsewhere : (j : ℕ) (s : Side) → stands (Instrument j) s o ≡ false
-  elsewhere j s = and_left (same_book (lot_book o.lot) (Instrument j)) (same_side o.side s) (no_instrument cs (lot_book o.lot) legs j of)
-
-  elsewhere_less : (j : ℕ) (s : Side) → stands (Instrument j) s (less o k) ≡ false
-  elsewhere_less j s = ap (λ b. same_book b (Instrument j) && same_side o.side s) (lot_book-sized o.lot (quantity_of o - k)) ∙ elsewhere j s
-
-  ladder_aside : (j : ℕ) (s : Side) → ladder (Instrument j) s (ahead ++ left_of o k ++ behind) ≡ ladder (Instrument j) s (ahead ++ (o ∷ behind))
-  ladder_aside j s = ap (λ xs. contracts (ranked s xs)) (filter_aside (stands (Instrument j) (opposite s)) o k (elsewhere j (opposite s)) (elsewhere_less j (opposite s)) ahead behind)
-
   pub offered_aside : (s : Side) (u : ℕ) (ls : List Leg) → AllOffered s u ls (ahead ++ (o ∷ behind)) → AllOffered s u ls (ahead ++ left_of o k ++ behind)
   offered_aside s u ls h =
       All-weaker (λ l. contracts_for l u ≤ length (ladder (Instrument l.instrument) (leg_side s l) (ahead ++ (o ∷ behind)))) (λ l. contracts_for l u ≤ length (ladder (Instrument l.instrument) (leg_side s l) (ahead ++ left_of o k ++ behind)))
-      (λ l enough. subst (λ zs. contracts_for l u ≤ length zs) (sym (ladder_aside l.instrument (leg_side s l))) enough) ls h
+      (λ l enough. subst (λ zs. contracts_for l u ≤ length zs) (sym (ladder_left ahead o behind k (no_instrument cs (lot_book o.lot) legs of) l.instrument (leg_side s l))) enough) ls h
 
 -- ---- one fill
 
@@ -113,9 +85,9 @@ module _ (shares : List ℕ → ℕ → List ℕ) (cs : List (List Leg)) (f₀ :
     pub told : List Row
     pub more : Tells t₀ told t
     pub goes : (new : List Row) (f' : ℕ) (os' : List Order) → Round shares cs f os new f' os' → Round shares cs f₀ os₀ (told ++ new) f' os'
-    pub fills : f + open_in os ≤ 2570001
+    pub fills : f + open_in os ≤ 2580001
 
-  pub rounding_start : f₀ + open_in os₀ ≤ 2570001 → Rounding f₀ os₀ t₀
+  pub rounding_start : f₀ + open_in os₀ ≤ 2580001 → Rounding f₀ os₀ t₀
   rounding_start few = record { told = []; more = tells_none t₀; goes = λ new f' os' m. m; fills = few }
 
   pub rounding_on : (f : ℕ) (os : List Order) (t : Told) (os' : List Order) (t' : Told) → Rounding f os t → RoundFilled shares cs f os t os' t' → Rounding (f + 1) os' t'

@@ -20,7 +20,7 @@ use Rattle.market.specs.Matching.Match.{fill, implied}
 use Rattle.market.specs.Orders.{lot_book}
 use Rattle.market.specs.Prices.{opposite, good, as_price}
 use Rattle.market.specs.Rows.{fill_rows, implied_row}
-use Rattle.market.proofs.RankedLadders.{good_chain, good_either}
+use Rattle.market.proofs.Places.{good_trans, good_total}
 use Rattle.book.specs.declared.told.Told.{Told}
 use Rattle.book.specs.declared.wanted.Wanted.{Wanted}
 use Rattle.book.specs.Bounds.{Positive}
@@ -50,8 +50,8 @@ unit_beyond s limit p (Some z) far refused = go (good s p (as_price z)) (good s 
 unit_better : (s : Side) (limit p : Price) (net : Option ℤ) → good s p limit ≡ true → level_first s p net ≡ false → wanted s limit (Some p) net ≡ true
 unit_better s limit p None near worse = absurd (both_ways _ worse refl)
 unit_better s limit p (Some z) near worse =
-    let better : good s (as_price z) p ≡ true = good_either s p (as_price z) worse in
-    let within : good s (as_price z) limit ≡ true = good_chain s (as_price z) p limit better near in
+    let better : good s (as_price z) p ≡ true = good_total s p (as_price z) worse in
+    let within : good s (as_price z) limit ≡ true = good_trans s (as_price z) p limit better near in
     rw (worse, within) refl
 
 module _ (o : Order) (legs : Option (List Leg)) (os : List Order) where
@@ -72,15 +72,16 @@ module _ (o : Order) (legs : Option (List Leg)) (os : List Order) where
 
 -- ---- what units ask of the ladders
 
+-- the rest of a net exists where the net does
+rest_net : (x y : Option ℤ) (z : ℤ) → plus x y ≡ Some z → (w : ℤ) × (y ≡ Some w)
+rest_net None y z h = absurd (cc)
+rest_net (Some x) None z h = absurd (cc)
+rest_net (Some x) (Some w) z h = (w, refl)
+
 module _ (s : Side) (os : List Order) (u : ℕ) where
   -- a leg's part of a net exists where its contracts do
   part_enough : (leg : Leg) (zs : List ℤ) (y : Option ℤ) (z : ℤ) → plus (leg_net leg zs u) y ≡ Some z → contracts_for leg u ≤ length zs
   part_enough leg zs y z h = grind (arith, nat_tests)
-
-  rest_net : (x y : Option ℤ) (z : ℤ) → plus x y ≡ Some z → (w : ℤ) × (y ≡ Some w)
-  rest_net None y z h = absurd (cc)
-  rest_net (Some x) None z h = absurd (cc)
-  rest_net (Some x) (Some w) z h = (w, refl)
 
   net_enough : (legs : List Leg) (z : ℤ) → net (ladders s legs os) u ≡ Some z → AllOffered s u legs os
   net_enough [] z h = All-nil (λ l. contracts_for l u ≤ length (ladder (Instrument l.instrument) (leg_side s l) os))
@@ -94,11 +95,6 @@ pub sum_enough : (o : Order) (legs : List Leg) (os : List Order) (u : ℕ) (z : 
 sum_enough o legs os zero z some h = absurd (omega arith)
 sum_enough o legs os (suc u) z some h = go o.quote (rest_net (amount (net_to o (Some legs) os) u) (net_to o (Some legs) os (suc u)) z h)
   where
-    rest_net : (x y : Option ℤ) (z : ℤ) → plus x y ≡ Some z → (w : ℤ) × (y ≡ Some w)
-    rest_net None y z h = absurd (cc)
-    rest_net (Some x) None z h = absurd (cc)
-    rest_net (Some x) (Some w) z h = (w, refl)
-
     go : (quote : Bool) → (w : ℤ) × (unit_net (cond quote None (Some legs)) o.side os (suc u) ≡ Some w) → AllOffered o.side (suc u) legs os
     go true h = absurd (let e : None ≡ Some h.0 = h.1 in cc)
     go false h = net_enough o.side os (suc u) legs h.0 h.1

@@ -1,11 +1,11 @@
 -- Orders of combinations tried in turn: of each combination and side only the first.
-use Rattle.std.proofs.Common.{◌≡◌, ℕ, zero, suc, ◌+◌, ◌<◌, ◌≤◌, Bool, true, false, cond, not, ◌&&◌, List, [], ◌∷◌, ◌++◌, length, get_or, take, drop, Some, None, Option, ltb, sym, refl, ap, ◌∙◌, subst, arith}
+use Rattle.std.proofs.Common.{◌≡◌, ℕ, zero, suc, ◌+◌, ◌<◌, ◌≤◌, Bool, true, false, cond, not, ◌&&◌, List, [], ◌∷◌, length, get_or, Some, None, Option, ltb, sym, refl, ap, ◌∙◌, subst, arith}
 use Rattle.std.specs.Prelude.{ℤ, ◌||◌, nat_lt, ◌==◌}
 use Rattle.std.specs.List.{All}
 use Rattle.std.proofs.lemmas.Bool.{both_ways, ltb-true, ltb-false}
 use Rattle.std.proofs.lemmas.Bool.Decides.{nat_tests}
 use Rattle.std.proofs.lemmas.Int.{ints}
-use Rattle.std.proofs.lemmas.List.{get_or_default, get_or-take, get_or-drop, length-take, length-drop, drop_more, take-append-drop}
+use Rattle.std.proofs.lemmas.List.{get_or_default}
 use Rattle.market.specs.declared.leg.Leg.{Leg}
 use Rattle.market.specs.declared.order.Lot.{Lot}
 use Rattle.market.specs.declared.order.Lot.TheVariants.{Outright, Combined}
@@ -17,38 +17,10 @@ use Rattle.market.specs.Ladders.{unit_net, net_to, wanted}
 use Rattle.market.specs.Orders.{lot_book, book_number}
 use Rattle.market.specs.Prices.{good, as_price}
 use Rattle.market.specs.Round.{legs_of, eligible, side_first, precedes}
-use Rattle.market.proofs.RankedLadders.{good_chain}
-use Rattle.book.specs.Rounds.{combined, side_before, group_before, waits, FirstAmong, FirstAt}
-
--- ---- orders that never have a turn
-
-no_reach : (quote : Bool) (legs : Option (List Leg)) (s : Side) (os : List Order) (p : Price) → (quote ≡ true) → wanted s p None (unit_net (cond quote None legs) s os 1) ≡ false
-no_reach true legs s os p e = refl
-no_reach false legs s os p e = absurd (both_ways _ refl e)
-
-no_legs : (quote : Bool) (s : Side) (os : List Order) (p : Price) → wanted s p None (unit_net (cond quote None None) s os 1) ≡ false
-no_legs true s os p = refl
-no_legs false s os p = refl
+use Rattle.market.proofs.Places.{good_trans}
+use Rattle.book.specs.Rounds.{combined, side_before, group_before, waits, FirstAmong}
 
 module _ (cs : List (List Leg)) (os : List Order) where
-  quote_never : (o : Order) → o.quote ≡ true → eligible cs os o ≡ false
-  quote_never o e = no_reach o.quote (legs_of cs (lot_book o.lot)) o.side os o.price e
-
-  outright_never : (o : Order) → combined o.lot ≡ false → eligible cs os o ≡ false
-  outright_never o e = go o.lot e
-    where
-      go : (l : Lot) → combined l ≡ false → wanted o.side o.price None (unit_net (cond o.quote None (legs_of cs (lot_book l))) o.side os 1) ≡ false
-      go (Outright i q) e = no_legs o.quote o.side os o.price
-      go (Combined c q) e = absurd (both_ways _ e refl)
-
-  pub never : (o : Order) → waits None o ≡ false → eligible cs os o ≡ false
-  never o e = go (combined o.lot) o.quote refl refl e
-    where
-      go : (b q : Bool) → combined o.lot ≡ b → o.quote ≡ q → b && not q ≡ false → eligible cs os o ≡ false
-      go false q eb eq h = outright_never o eb
-      go true true eb eq h = quote_never o eq
-      go true false eb eq h = absurd (both_ways _ h refl)
-
   -- ---- one combination and side
 
   -- a limit that is no wider leaves no more eligible
@@ -58,7 +30,7 @@ module _ (cs : List (List Leg)) (os : List Order) where
     where
       go : (t : Bool) → good s (as_price z) r ≡ t → t ≡ false
       go false e = refl
-      go true e = absurd (both_ways _ no-unit (good_chain s (as_price z) r p e closer))
+      go true e = absurd (both_ways _ no-unit (good_trans s (as_price z) r p e closer))
 
   alike : (x o : Order) → lot_book x.lot ≡ lot_book o.lot → x.side ≡ o.side → x.quote ≡ o.quote → net_to x (legs_of cs (lot_book x.lot)) os 1 ≡ net_to o (legs_of cs (lot_book o.lot)) os 1
   alike x o b s q = λ j. unit_net (cond (q j) None (legs_of cs (b j))) (s j) os 1
@@ -187,22 +159,18 @@ abbrev pub many : (Order → Bool) → List Order → ℕ
 many test [] = 0
 many test (o ∷ os) = cond (test o) 1 0 + many test os
 
+one_le : (a b : Bool) → (a ≡ true → b ≡ true) → cond a 1 0 ≤ cond b 1 0
+one_le true b k = rw (k refl) (omega arith)
+one_le false b k = omega arith
+
 many_le : (f g : Order → Bool) → ((x : Order) → f x ≡ true → g x ≡ true) → (os : List Order) → many f os ≤ many g os
 many_le f g h [] = omega arith
-many_le f g h (o ∷ os) = omega (arith, many_le f g h os, one (f o) (g o) (h o))
-  where
-    one : (a b : Bool) → (a ≡ true → b ≡ true) → cond a 1 0 ≤ cond b 1 0
-    one true b k = rw (k refl) (omega arith)
-    one false b k = omega arith
+many_le f g h (o ∷ os) = omega (arith, many_le f g h os, one_le (f o) (g o) (h o))
 
 pub many_less : (f g : Order → Bool) → ((x : Order) → f x ≡ true → g x ≡ true) → (os : List Order) (i : ℕ) (d : Order) → i < length os → f (get_or os i d) ≡ false → g (get_or os i d) ≡ true → many f os < many g os
 many_less f g h [] i d lt a b = absurd (omega arith)
 many_less f g h (o ∷ os) zero d lt a b = rw (a, b) (omega (arith, many_le f g h os))
-many_less f g h (o ∷ os) (suc i) d lt a b = omega (arith, many_less f g h os i d (omega arith) a b, one (f o) (g o) (h o))
-  where
-    one : (a b : Bool) → (a ≡ true → b ≡ true) → cond a 1 0 ≤ cond b 1 0
-    one true b k = rw (k refl) (omega arith)
-    one false b k = omega arith
+many_less f g h (o ∷ os) (suc i) d lt a b = omega (arith, many_less f g h os i d (omega arith) a b, one_le (f o) (g o) (h o))
 
 -- ---- trying
 
@@ -210,9 +178,6 @@ module _ (cs : List (List Leg)) (os : List Order) where
   -- no order that does not wait any more is eligible
   abbrev pub Tried : Option Order → Type 0
   Tried tried = All (λ o. waits tried o ≡ false → eligible cs os o ≡ false) os
-
-  pub tried_none : Tried None
-  tried_none j d lt h = never cs os (get_or os j d) h
 
   module _ (tried : Option Order) (i : ℕ) (d : Order) (h : Tried tried) (first : FirstAmong (waits tried) os i) where
     abbrev o : Order
@@ -246,33 +211,3 @@ module _ (cs : List (List Leg)) (os : List Order) where
         go : (t : Bool) → waits tried (get_or os j e) ≡ t → eligible cs os (get_or os j e) ≡ false
         go false w = h j e lt w
         go true w = turn_none none j (get_or os j e) lt (get_or_default os j d e lt) out w
-
-    -- an eligible order waits
-    eligible_waits : (j : ℕ) (e : Order) → j < length os → eligible cs os (get_or os j e) ≡ true → waits tried (get_or os j e) ≡ true
-    eligible_waits j e lt yes-j = go (waits tried (get_or os j e)) refl
-      where
-        go : (t : Bool) → waits tried (get_or os j e) ≡ t → t ≡ true
-        go true w = refl
-        go false w = absurd (both_ways _ (h j e lt w) yes-j)
-
-    pub first_found : ((e : Order) → eligible cs os (get_or os i e) ≡ true) → FirstAt cs os i
-    first_found fit = record {
-      inside = first.inside;
-      first = λ e. record {
-        stands = sym (take-append-drop i os) ∙ ap (λ (xs : List Order). take i os ++ xs) (drop_more os i e first.inside);
-        within = fit e;
-        before = λ j x at-j yes-j.
-            let less : j < i = omega (arith, length-take i os) in
-            let lt : j < length os = omega (arith, first.inside) in
-            let it : get_or (take i os) j x ≡ get_or os j e = get_or-take i os j x less ∙ get_or_default os j x e lt in
-            subst (λ y. precedes (get_or os i e) y ≡ true) (sym it) (first.before e j less (eligible_waits j e lt (subst (λ y. eligible cs os y ≡ true) it yes-j)));
-        after = λ j x at-j yes-j.
-            let lt : (i + 1) + j < length os = omega (arith, length-drop (i + 1) os) in
-            let it : get_or (drop (i + 1) os) j x ≡ get_or os ((i + 1) + j) e = get_or-drop (i + 1) os j x ∙ get_or_default os ((i + 1) + j) x e lt in
-            subst (λ y. precedes y (get_or os i e) ≡ false) (sym it) (first.after e ((i + 1) + j) lt (omega arith) (eligible_waits ((i + 1) + j) e lt (subst (λ y. eligible cs os y ≡ true) it yes-j)));
-      };
-    }
-
-  -- where no order waits, none is eligible
-  pub tried_all : (tried : Option Order) → Tried tried → All (λ o. waits tried o ≡ false) os → All (λ o. eligible cs os o ≡ false) os
-  tried_all tried h none j d lt = h j d lt (none j d lt)

@@ -3,6 +3,8 @@ pub mod Best
 pub mod Held
 pub mod Reports
 pub mod Facing
+pub mod Revised
+pub mod OldSides
 pub mod Table
 pub mod Reading
 pub mod Units
@@ -12,3 +14,4 @@ pub mod Matched
 pub mod Rounds
 pub mod Settling
 pub mod Closing
+pub mod PlacedSides

@@ -55,8 +55,8 @@ module _ (shares : List ℕ → ℕ → List ℕ) (legs : Option (List Leg)) (o 
   Stepped at os t None os' t' = NoMore o legs os × (os' ≡ os) × (t' ≡ t)
   Stepped at os t (Some k) os' t' = Traded at.next_fill at.left os t k os' t'
 
-  -- the order has matched, from its first fill on, and the rows of the match are told
-  pub record Matched (os : List Order) (t : Told) (f q : ℕ) (os' : List Order) (t' : Told) : Type 0 where
+  -- the order has matched, from the fill g on, and the rows of the match are told
+  pub record Matched (g : ℕ) (os : List Order) (t : Told) (f q : ℕ) (os' : List Order) (t' : Told) : Type 0 where
     pub rows : List Row
-    pub run : Match shares legs o 1 (quantity_of o) os rows f q os'
+    pub run : Match shares legs o g (quantity_of o) os rows f q os'
     pub more : Tells t rows t'

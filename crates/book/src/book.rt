@@ -4,7 +4,9 @@ ghost use Rattle.std.specs.Prelude.{◌≤◌};
 use crate::draft::Draft;
 use crate::orders::Orders;
 
+mod amending;
 mod calls;
+mod quoting;
 
 #[derive(Drop)]
 pub struct Book {

@@ -27,7 +27,7 @@ impl Entering {
             side: arrival.side,
             price: arrival.price,
             lot: arrival.lot,
-            quote: false,
+            quote: arrival.quote,
         };
         Entering {
             order,

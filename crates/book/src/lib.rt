@@ -2,6 +2,7 @@
 #![tactic(auto)]
 
 mod amounts;
+mod arriving;
 pub mod book;
 mod compare;
 mod draft;
@@ -15,16 +16,22 @@ mod legs;
 mod level;
 mod lot;
 mod matching;
+mod old_side;
 mod orders;
 mod place;
+mod placing;
 mod progress;
+mod quote_sides;
 mod remainder;
 mod resting;
+mod revision;
 mod round;
 mod rows;
 mod run;
 mod rung;
 mod scratch;
+mod side_numbers;
+mod sized;
 mod step;
 mod taker;
 mod told;

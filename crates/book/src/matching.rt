@@ -53,21 +53,23 @@ impl Draft {
         }
     }
 
-    // Trades an arriving order until nothing more trades.
+    // Trades an arriving order until nothing more trades; its first fill has this number.
     pub(crate) fn match_order<R: AllocationRule>(
         &mut self,
         rule: &R,
         order: &Order,
         legs: Option<&[Leg]>,
+        next_fill: u32,
         told: &mut Told<'_>,
     ) -> Progress
         requires legs { LegsFit (lent legs) }
         requires few { quantity_of order.now ≤ 10000 }
-        ensures run { Matched (R.AllocationRule.shares rule.now) (lent legs.entry) order.now (held self.old.orders) told.old result.next_fill result.left (held self.new.orders) told.new }
-        ensures bounds { InBounds order.now result }
+        requires early { next_fill ≤ 10001 }
+        ensures run { Matched (R.AllocationRule.shares rule.now) (lent legs.entry) order.now next_fill (held self.old.orders) told.old result.next_fill result.left (held self.new.orders) told.new }
+        ensures bounds { InBounds next_fill order.now result }
     {
         let mut at = Progress {
-            next_fill: 1,
+            next_fill,
             left: lot_size(order.lot),
         };
         while at.left > 0 {

@@ -5,7 +5,7 @@ ghost use Rattle.rules.specs.Domain.{Below};
 ghost use Rattle.market.specs.declared.order.Order.{Order as OrderT};
 ghost use Rattle.market.specs.BookCalls.{leaves};
 ghost use Rattle.market.specs.Levels.{quantities, after_fill};
-ghost use Rattle.market.specs.Orders.{own, quantity_of};
+ghost use Rattle.market.specs.Orders.{own, quotes, quantity_of};
 ghost use Rattle.market.specs.Round.{left_of};
 ghost use Rattle.market.specs.Rows.{cancel_row};
 ghost use Rattle.book.specs.Bounds.{Small, Positive, LegsFit};
@@ -13,14 +13,17 @@ ghost use Rattle.book.specs.Facing.{faces, faced, rows_of};
 ghost use Rattle.book.specs.Table.{lent};
 ghost use Rattle.book.specs.Reports.{Tells};
 
+use crate::compare::stands;
 use crate::fill::Fill;
 use crate::resting::Resting;
 use crate::rows::cancel_row;
 use crate::told::Told;
 use crate::withdrawal::leaves;
+use market::book_id::BookId;
 use market::order::Order;
 use market::order_id::OrderId;
 use market::phase::Withdrawal;
+use market::side::Side;
 use std::alloc::{AllocError, Global};
 
 // The most orders that rest at once.
@@ -41,6 +44,12 @@ fn own(order: &Order, id: OrderId) -> bool
     ensures { result ≡ own id.participant id.number order.now }
 {
     order.number == id.number && order.participant == id.participant && !order.quote
+}
+
+fn quotes(order: &Order, participant: u32, book: BookId, side: Side) -> bool
+    ensures { result ≡ quotes participant book side order.now }
+{
+    order.quote && order.participant == participant && stands(order, book, side)
 }
 
 impl Orders {
@@ -75,6 +84,15 @@ impl Orders {
         self.as_slice().iter().position(|order| own(order, id))
     }
 
+    // Where the participant's quote on that side of the book stands.
+    pub(crate) fn find_quote(&self, participant: u32, book: BookId, side: Side) -> Option<usize>
+        ensures { result ≡ position (quotes participant book side) (held self.now) }
+    {
+        self.as_slice()
+            .iter()
+            .position(|order| quotes(order, participant, book, side))
+    }
+
     // An order rests, as the last.
     pub(crate) fn push(&mut self, order: Order)
         requires few { length (held self.old) < 256 }
@@ -93,7 +111,7 @@ impl Orders {
         self.inner.orders.remove(i)
     }
 
-    // An order trades so much, and leaves if it has nothing open then.
+    // An order has so much less open, traded or cancelled, and leaves if it then has nothing.
     pub(crate) fn take_from(&mut self, i: usize, taken: u32)
         requires inside { i < length (held self.old) }
         requires enough { (d : OrderT) → taken ≤ quantity_of (slice_index_or (held self.old) i d) }

@@ -54,7 +54,7 @@ impl Draft {
         next_fill: u32,
         told: &mut Told<'_>,
     )
-        requires { next_fill ≤ 10001 }
+        requires { next_fill ≤ 20001 }
         ensures { Rounded (R.AllocationRule.shares rule.now) (table combinations.now) next_fill (held self.old.orders) told.old (held self.new.orders) told.new }
     {
         let mut fill = next_fill;

@@ -1,12 +1,14 @@
 // The report of a call, and how many of its rows are told.
 ghost use Rattle.std.specs.Prelude.{◌≡◌, ◌≤◌, [], ◌∷◌, map, length};
-ghost use Rattle.market.specs.Rows.{blank, some_rows, share_rows, leg_row};
+ghost use Rattle.market.specs.Orders.{sized};
+ghost use Rattle.market.specs.Rows.{blank, some_rows, share_rows, leg_row, cancel_row};
 ghost use Rattle.book.specs.Bounds.{SmallLegs, LegsFit};
 ghost use Rattle.book.specs.Table.{lent};
 ghost use Rattle.book.specs.Reports.{Holds, Tells};
 
 use crate::fill::Fill;
-use crate::rows::{combination_row, leg_row, trade_row};
+use crate::rows::{cancel_row, combination_row, leg_row, trade_row};
+use crate::sized::sized;
 use market::counts::{Contracts, Units};
 use market::leg::Leg;
 use market::order::Order;
@@ -55,6 +57,13 @@ impl<'a> Told<'a> {
             }
             _ => self.count = None,
         }
+    }
+
+    // So much of an order is cancelled.
+    pub(crate) fn push_cancelled(&mut self, order: &Order, quantity: u32)
+        ensures { Tells self.old (cancel_row (sized order.now quantity) ∷ []) self.new }
+    {
+        self.push(cancel_row(&sized(*order, quantity)));
     }
 
     // One share of a fill: a contract trade, or a combination trade and its legs; a share of 0 makes no row.

@@ -46,6 +46,35 @@ fn no_row(rt: HostRuntime) -> Result<(), Fail> {
     Ok(())
 }
 
+// An amend and a quote that have one row to tell are refused for want of it, and then nothing has happened: both orders and the quote rest as they did.
+#[test]
+fn amends_and_quotes_without_a_row(rt: HostRuntime) -> Result<(), Fail> {
+    let mut gateway = opened(&rt)?;
+    let mut none = [Row::blank(); 0];
+    assert_eq!(rt; told(gateway.call(b"Q 9 1 2 3 0 0", &mut none)), Ok((3, 0)));
+    // Fewer contracts, and more: both cancel something.
+    assert_eq!(rt; told(gateway.call(b"A 7 1 1 5", &mut none)), TOO_FEW_ROWS);
+    assert_eq!(rt; told(gateway.call(b"A 7 1 3 5", &mut none)), TOO_FEW_ROWS);
+    // The bid with one contract less, and at another price.
+    assert_eq!(rt;
+        told(gateway.call(b"Q 9 1 1 3 0 0", &mut none)),
+        TOO_FEW_ROWS
+    );
+    assert_eq!(rt;
+        told(gateway.call(b"Q 9 1 2 4 0 0", &mut none)),
+        TOO_FEW_ROWS
+    );
+    // As it rests: nothing to tell.
+    assert_eq!(rt; told(gateway.call(b"A 7 1 2 5", &mut none)), Ok((1, 0)));
+    assert_eq!(rt; told(gateway.call(b"Q 9 1 2 3 0 0", &mut none)), Ok((3, 0)));
+    let mut one = [Row::blank(); 1];
+    assert_eq!(rt; told(gateway.call(b"C 7 1", &mut one)), Ok((1, 2)));
+    assert_eq!(rt; told(gateway.call(b"Q 9 1 0 0 0 0", &mut one)), Ok((0, 0)));
+    assert_eq!(rt; one[0].quantity, 2);
+    assert_eq!(rt; one[0].buyer, 3);
+    Ok(())
+}
+
 #[test]
 fn one_row(rt: HostRuntime) -> Result<(), Fail> {
     let mut gateway = opened(&rt)?;

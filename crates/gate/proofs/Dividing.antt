@@ -3,7 +3,7 @@ use Rattle.std.proofs.Common.{◌≡◌, ℕ, ◌+◌, ◌<◌, ◌≤◌, List,
 use Rattle.std.specs.Int.{◌∣◌, IsGcd}
 use Rattle.std.proofs.lemmas.List.Elements.{All-nil, All-cons, All-head, All-tail}
 use Rattle.std.proofs.lemmas.List.{drop_all}
-use Rattle.std.proofs.lemmas.Nat.Gcd.{dvd_refl, dvd-zero, dvd_trans}
+use Rattle.std.proofs.lemmas.Nat.Gcd.{dvd_refl, dvd_trans}
 use Rattle.market.specs.declared.leg.Leg.{Leg}
 use Rattle.market.specs.Combinations.{size, divisor}
 use Rattle.market.proofs.Ratios.{Divides, Nonzero, divisor_is}
@@ -12,9 +12,6 @@ use Rattle.market.proofs.Ratios.{Divides, Nonzero, divisor_is}
 pub record Divided (legs : List Leg) (common : ℕ) (rest : List Leg) : Type 0 where
   pub into : (d : ℕ) → Divides d legs → (d ∣ common) × Divides d rest
   pub back : (d : ℕ) → d ∣ common → Divides d rest → Divides d legs
-
-pub started : (legs : List Leg) → Divided legs 0 legs
-started legs = record { into = λ d h. (dvd-zero d, h); back = λ d _ h. h }
 
 pub one_more : (legs : List Leg) (common : ℕ) (l : Leg) (rest : List Leg) (g : ℕ) → Divided legs common (l ∷ rest) → IsGcd common (size l) g → Divided legs g rest
 one_more legs common l rest g s h = record {

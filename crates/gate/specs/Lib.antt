@@ -1,3 +1,4 @@
+pub mod Asked
 pub mod Conditions
 pub mod Made
 pub mod Views

@@ -1,12 +1,10 @@
 // An order as an enter line asks for it.
 ghost use Rattle.std.specs.Prelude.{◌≡◌};
-ghost use Rattle.market.specs.Orders.{lot_of};
+ghost use Rattle.market.specs.declared.call.Call.TheVariants.{Enter};
 
+use crate::lot::lot_of;
 use market::arrival::Arrival;
 use market::call::Duration;
-use market::combination::FIRST_COMBINATION;
-use market::counts::{Contracts, Units};
-use market::order::Lot;
 use market::price::Price;
 use market::side::Side;
 
@@ -22,32 +20,40 @@ pub(crate) struct Entry {
 }
 
 impl Entry {
-    fn lot(self) -> Lot
-        ensures { result ≡ lot_of self.book self.quantity }
+    ghost use Rattle.gate.specs.Asked.{entry_call, arrival_of};
+
+    // No literal, so that the call which it stands for is said once.
+    pub(crate) fn new(
+        participant: u32,
+        book: u32,
+        side: Side,
+        quantity: u32,
+        price: Price,
+        duration: Duration,
+    ) -> Entry
+        ensures { entry_call result ≡ Enter participant book side quantity price duration }
     {
-        if self.book < FIRST_COMBINATION {
-            Lot::Outright {
-                instrument: self.book,
-                quantity: Contracts(self.quantity),
-            }
-        } else {
-            Lot::Combined {
-                combination: self.book,
-                quantity: Units(self.quantity),
-            }
+        Entry {
+            participant,
+            book,
+            side,
+            quantity,
+            price,
+            duration,
         }
     }
 
     // The order that arrives in the book.
     pub(crate) fn arrival(self) -> Arrival
-        ensures { result ≡ record { participant = self.participant; side = self.side; lot = lot_of self.book self.quantity; price = self.price; duration = self.duration } }
+        ensures { result ≡ arrival_of self }
     {
         Arrival {
             participant: self.participant,
             side: self.side,
-            lot: self.lot(),
+            lot: lot_of(self.book, self.quantity),
             price: self.price,
             duration: self.duration,
+            quote: false,
         }
     }
 }

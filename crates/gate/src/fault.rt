@@ -3,7 +3,7 @@ ghost use Rattle.std.specs.Prelude.{◌≡◌, Bool, not, ◌+◌, ◌^◌, ◌<
 ghost use Rattle.std.specs.Fn.{FnReturnsAt};
 ghost use Rattle.market.specs.Bands.{broken_band, build_fault};
 ghost use Rattle.market.specs.Tables.{unless, first_broken};
-ghost use Rattle.market.specs.declared.refusal.Refusal.TheVariants.{Participant};
+ghost use Rattle.market.specs.declared.refusal.Refusal.TheVariants.{Participant, Quantity};
 ghost use Rattle.market.specs.Venues.{between, within_band, within_net_band};
 ghost use Rattle.gate.specs.Conditions.{Judges};
 
@@ -13,6 +13,9 @@ use market::product::Band;
 use market::refusal::Refusal;
 
 const LAST_PARTICIPANT: u32 = 999;
+
+// The most contracts or units that an order or a side of a quote may be for.
+const MOST_QUANTITY: u32 = 10_000;
 
 // The highest price that a band may reach.
 const HIGHEST_PRICE: u32 = 999_999;
@@ -35,6 +38,23 @@ pub(crate) fn check_participant(participant: u32) -> Result<(), Refusal>
         (1..=LAST_PARTICIPANT).contains(&participant),
         Refusal::Participant,
     )
+}
+
+// An order is for 1 to 10,000 contracts or units; the field with the quantity is at fault.
+pub(crate) fn check_quantity(quantity: u32, place: u32) -> Result<(), Refusal>
+    ensures { Judges (unless (between 1 10000 quantity) (Quantity place)) result }
+{
+    unless(
+        (1..=MOST_QUANTITY).contains(&quantity),
+        Refusal::Quantity(place),
+    )
+}
+
+// A side of a quote is for as many, or for none.
+pub(crate) fn check_side_quantity(quantity: u32, place: u32) -> Result<(), Refusal>
+    ensures { Judges (unless (between 0 10000 quantity) (Quantity place)) result }
+{
+    unless(quantity <= MOST_QUANTITY, Refusal::Quantity(place))
 }
 
 // The price is neither below the band nor above it.

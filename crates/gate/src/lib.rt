@@ -7,6 +7,8 @@ mod entry;
 mod fault;
 mod legs;
 mod listing;
+mod lot;
 mod ratios;
+mod sides;
 mod trading;
 pub mod venue;

@@ -3,7 +3,11 @@ use crate::listing::Listing;
 use book::book::Book;
 use rules::rule::AllocationRule;
 
+// In all calls: a refusal also blanks the report, so that `?` alone would not do where a call is refused.
+mod amending;
 mod calls;
+mod entering;
+mod quoting;
 
 // The most instruments that a venue may have, and so the most bands.
 pub const MOST_INSTRUMENTS: usize = 64;

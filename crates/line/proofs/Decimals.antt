@@ -1,5 +1,5 @@
--- Bounds and steps of the value of digits.
-use Rattle.std.proofs.Common.{◌≡◌, ℕ, ◌+◌, ◌*◌, ◌^◌, ◌<◌, ◌≤◌, arith, pow-add}
+-- Bounds of the value of digits.
+use Rattle.std.proofs.Common.{ℕ, ◌^◌, ◌<◌, ◌≤◌, arith}
 use native.Mathlib.Nat.{pow-le-pow_right}
 
 pub below : (n i : ℕ) → n < 10 ^ i → i ≤ 9 → n < 1000000000
@@ -8,6 +8,3 @@ below n i h k = let p : 10 ^ i ≤ 10 ^ 9 = pow-le-pow_right (omega arith) k in 
 -- room for one more digit
 pub room : (n i : ℕ) → n < 10 ^ i → i < 9 → n < 100000000
 room n i h l = let k : i ≤ 8 = omega arith in let p : 10 ^ i ≤ 10 ^ 8 = pow-le-pow_right (omega arith) k in omega arith
-
-pub one_digit_more : (n i d : ℕ) → n < 10 ^ i → d < 10 → n * 10 + d < 10 ^ (i + 1)
-one_digit_more n i d h l = let e : 10 ^ (i + 1) ≡ 10 ^ i * 10 = pow-add 10 i 1 in omega arith

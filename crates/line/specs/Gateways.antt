@@ -7,7 +7,8 @@ use Rattle.market.specs.declared.row.Row.{Row}
 use Rattle.market.specs.Acceptances.{acceptance_numbers}
 use Rattle.market.specs.Bands.{build_fault, BandsJudged}
 use Rattle.market.specs.Refusals.{refusal_code}
-use Rattle.market.specs.Sessions.{Turn, Reached, Sound}
+use Rattle.market.specs.Turns.{Turn}
+use Rattle.market.specs.Sessions.{Reached, Sound}
 use Rattle.market.specs.Venues.{View, fresh}
 use Rattle.gate.specs.declared.build_error.BuildError.{BuildError}
 use Rattle.gate.specs.declared.build_error.BuildError.TheVariants.{Refused, OutOfMemory}

@@ -8,7 +8,7 @@ use Rattle.market.specs.Levels.{NoneWithin}
 use Rattle.market.specs.Orders.{lot_book, quantity_of, stands}
 use Rattle.market.specs.Prices.{opposite, good}
 use Rattle.market.specs.Sessions.{Apart}
-use Rattle.market.proofs.LevelSums.{same_book_refl}
+use Rattle.market.proofs.Places.{same_book_refl}
 use Rattle.market.proofs.Sizes.{lot_book-sized}
 use Rattle.market.proofs.Thinning.{Thins}
 

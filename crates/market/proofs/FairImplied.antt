@@ -19,7 +19,8 @@ use Rattle.market.specs.Orders.{lot_book, book_number}
 use Rattle.market.specs.Prices.{opposite, good, as_price}
 use Rattle.market.specs.Round.{legs_of}
 use Rattle.market.specs.Rows.{buyer_of, implied_row}
-use Rattle.market.specs.Sessions.{Turn, Limited, is_combination, is_leg, leg_rows, of_leg, laid_out, on_side, Names, LegTraded, WithinAll, UnitsWithin.from_legs, is_trade, InLegs, Fair}
+use Rattle.market.specs.Turns.{Turn, is_combination, is_trade}
+use Rattle.market.specs.FairTrades.{Limited, is_leg, leg_rows, of_leg, laid_out, on_side, Names, LegTraded, WithinAll, UnitsWithin.from_legs, InLegs, Fair}
 use Rattle.market.proofs.FairFills.{Known, limited, legs_made, legs_plain, legs_placed}
 use Rattle.market.proofs.FairReports.{Placed, Meets, fair_cons, fair_plain, FairFrom}
 use Rattle.market.proofs.LegRows.{LegRow, leg_is_no_combination, leg_rows_own}

@@ -11,7 +11,9 @@ use Rattle.market.specs.declared.row.Row.{Row}
 use Rattle.market.specs.declared.side.Side.{Side}
 use Rattle.market.specs.declared.side.Side.TheVariants.{Buy, Sell}
 use Rattle.market.specs.Combinations.{made}
-use Rattle.market.specs.Sessions.{Turn, Entry, Entered, Limited, is_combination, is_leg, leg_rows, WithinAll, UnitsWithin, UnitsWithin.at_level, UnitsWithin.from_legs, Fair, FairReport, EachFair}
+use Rattle.market.specs.Turns.{Turn, is_combination}
+use Rattle.market.specs.Entries.{Entry, Entered}
+use Rattle.market.specs.FairTrades.{Limited, is_leg, leg_rows, WithinAll, UnitsWithin, UnitsWithin.at_level, UnitsWithin.from_legs, Fair, FairReport, EachFair}
 use Rattle.market.proofs.LegRows.{NoLegRow, leg_rows_glue}
 
 -- a row that trades neither a leg nor units

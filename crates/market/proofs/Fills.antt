@@ -1,9 +1,9 @@
 -- One fill: what its rows say, and what it leaves of the book.
-use Rattle.std.proofs.Common.{◌≡◌, ℕ, ◌+◌, ◌-◌, ◌<◌, ◌≤◌, Bool, true, false, cond, ◌&&◌, ◌||◌, eqb, List, [], ◌∷◌, map, Some, None, Option, filter, refl, sym, ◌∙◌, inl, inr, arith}
+use Rattle.std.proofs.Common.{◌≡◌, ℕ, ◌+◌, ◌-◌, ◌≤◌, Bool, true, false, cond, ◌&&◌, ◌||◌, eqb, List, [], ◌∷◌, map, Some, None, Option, filter, refl, sym, ◌∙◌, inl, inr, arith}
 use Rattle.std.specs.List.{All}
 use Rattle.std.proofs.lemmas.Bool.{cases_Bool, cond_both, true≢false}
 use Rattle.std.proofs.lemmas.Bool.Decides.{nat_tests}
-use Rattle.std.proofs.lemmas.List.Elements.{All-nil, All-cons, All-head, All-tail, All-append}
+use Rattle.std.proofs.lemmas.List.Elements.{All-nil, All-cons, All-head, All-tail, All-append, All-map}
 use Rattle.std.proofs.lemmas.List.Sums.{sum_by-append}
 use Rattle.rules.specs.Domain.{total, Below}
 use Rattle.market.specs.declared.leg.Leg.{Leg}
@@ -13,12 +13,11 @@ use Rattle.market.specs.declared.row.RowKind.{RowKind}
 use Rattle.market.specs.declared.row.RowKind.TheVariants as kind
 use Rattle.market.specs.declared.side.Side.{Side}
 use Rattle.market.specs.declared.side.Side.TheVariants.{Buy, Sell}
-use Rattle.market.specs.Ladders.{leg_side}
 use Rattle.market.specs.Levels.{quantities, reduced, still_open}
 use Rattle.market.specs.Orders.{quantity_of, less}
 use Rattle.market.specs.Prices.{opposite}
-use Rattle.market.specs.Rows.{buyer_of, combination_row, leg_row, share_rows, fill_rows}
-use Rattle.market.specs.Sessions.{counted, resting}
+use Rattle.market.specs.Rows.{buyer_of, some_rows, trade_row, combination_row, leg_row, share_rows, fill_rows}
+use Rattle.market.specs.Turns.{counted, resting}
 use Rattle.market.proofs.Sizes.{lot_size-sized}
 use Rattle.market.proofs.Sums.{counted-cons, resting-cons, Plain}
 
@@ -103,26 +102,25 @@ pub resting_open : (n : ℕ) (os : List Order) → resting n (filter still_open 
 resting_open n [] = refl
 resting_open n (o ∷ os) = grind (arith, nat_tests, resting-cons n o, resting_open n os)
 
--- ---- the numbers in a fill's rows
+-- ---- what rows of a fill are
 
--- the numbers in a row are those of its two orders
-pub named_below : (s : Side) (m a t : ℕ) → a < m → t < m → (buyer_of s a t < m) × (buyer_of (opposite s) a t < m)
-named_below Buy m a t h k = (h, k)
-named_below Sell m a t h k = (k, h)
+-- what holds of the rows of each share holds of the rows of the fill
+pub fill_each : (P : Row → Type 0) (Q : Order → Type 0) (f n : ℕ) (legs : Option (List Leg)) → ((o : Order) (k : ℕ) → Q o → All P (share_rows f n legs o k)) →
+    (os : List Order) (ks : List ℕ) → All Q os → All P (fill_rows f n legs os ks)
+fill_each P Q f n legs each [] ks a = All-nil P
+fill_each P Q f n legs each (o ∷ os) [] a = All-nil P
+fill_each P Q f n legs each (o ∷ os) (k ∷ ks) a =
+    All-append P (some_rows k (share_rows f n legs o k)) (fill_rows f n legs os ks)
+    (cond_both (eqb k 0) [] (share_rows f n legs o k) (All P) (λ e. All-nil P) (λ e. each o k (All-head Q o os a)))
+    (fill_each P Q f n legs each os ks (All-tail Q o os a))
 
-module _ (f t m : ℕ) (h : t < m) where
-  legs_plain : (o : Order) (k : ℕ) → o.number < m → (legs : List Leg) → All (Plain m) (map (leg_row f t o k) legs)
-  legs_plain o k l [] = All-nil (Plain m)
-  legs_plain o k l (leg ∷ legs) = All-cons (Plain m) _ _ (record { below = named_below (leg_side o.side leg) m o.number t l h; uncancelled = refl }) (legs_plain o k l legs)
+-- they cancel nothing
+legs_plain : (f t : ℕ) (o : Order) (k : ℕ) (legs : List Leg) → All Plain (map (leg_row f t o k) legs)
+legs_plain f t o k legs = All-map Plain (leg_row f t o k) legs (λ i l at. refl)
 
-  share_plain : (legs : Option (List Leg)) (o : Order) (k : ℕ) → o.number < m → All (Plain m) (share_rows f t legs o k)
-  share_plain None o k l = All-cons (Plain m) _ [] (record { below = named_below o.side m o.number t l h; uncancelled = refl }) (All-nil (Plain m))
-  share_plain (Some legs) o k l = All-cons (Plain m) _ (map (leg_row f t o k) legs) (record { below = named_below o.side m o.number t l h; uncancelled = refl }) (legs_plain o k l legs)
+share_plain : (f t : ℕ) (legs : Option (List Leg)) (o : Order) (k : ℕ) → All Plain (share_rows f t legs o k)
+share_plain f t None o k = All-cons Plain (trade_row f t o k) [] refl (All-nil Plain)
+share_plain f t (Some legs) o k = All-cons Plain (combination_row f t o k) (map (leg_row f t o k) legs) refl (legs_plain f t o k legs)
 
-  pub fill_plain : (legs : Option (List Leg)) (os : List Order) (ks : List ℕ) → All (λ o. o.number < m) os → All (Plain m) (fill_rows f t legs os ks)
-  fill_plain legs [] ks a = All-nil (Plain m)
-  fill_plain legs (o ∷ os) [] a = All-nil (Plain m)
-  fill_plain legs (o ∷ os) (k ∷ ks) a =
-      All-append (Plain m) _ _
-      (cond_both (eqb k 0) _ _ (All (Plain m)) (λ _. All-nil (Plain m)) (λ _. share_plain legs o k (All-head (λ x. x.number < m) o os a)))
-      (fill_plain legs os ks (All-tail (λ x. x.number < m) o os a))
+pub fill_plain : (f t : ℕ) (legs : Option (List Leg)) (os : List Order) (ks : List ℕ) → All Plain (fill_rows f t legs os ks)
+fill_plain f t legs os ks = fill_each Plain (λ o. Unit {0}) f t legs (λ o k _. share_plain f t legs o k) os ks (λ i o at. tt)

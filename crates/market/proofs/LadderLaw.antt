@@ -1,9 +1,9 @@
 -- Ladders: each is in order, and has the contracts of every order of the other side.
-use Rattle.std.proofs.Common.{◌≡◌, ℕ, zero, suc, ◌+◌, ◌<◌, Bool, true, false, cond, List, [], ◌∷◌, ◌++◌, replicate, filter, ℤ, inl, inr, refl, ap, arith}
+use Rattle.std.proofs.Common.{◌≡◌, ℕ, zero, suc, ◌+◌, ◌<◌, Bool, true, cond, List, [], ◌∷◌, ◌++◌, replicate, filter, ℤ, inl, inr, refl, ap, arith}
 use Rattle.std.specs.List.{All, sum_by, count_by}
 use Rattle.std.proofs.lemmas.Bool.{cond_both, cases_Bool}
 use Rattle.std.proofs.lemmas.Int.{ints}
-use Rattle.std.proofs.lemmas.List.Elements.{All-nil, All-cons, All-head, All-tail, All-append, All-replicate, All-weaker}
+use Rattle.std.proofs.lemmas.List.Elements.{All-nil, All-cons, All-head, All-tail, All-append, All-replicate}
 use Rattle.std.proofs.lemmas.List.Folds.{sum_by-replicate}
 use Rattle.std.proofs.lemmas.List.Sums.{sum_by-append, sum_by-cons}
 use Rattle.rules.specs.Domain.{total}
@@ -18,45 +18,8 @@ use Rattle.market.specs.Ladders.{placed, ranked, contracts, ladder}
 use Rattle.market.specs.Levels.{quantities}
 use Rattle.market.specs.Orders.{stands, quantity_of}
 use Rattle.market.specs.Prices.{opposite, good, same_price, as_price}
-
--- ---- which price is as good as which
-
-pub good_refl : (s : Side) (p : Price) → good s p p ≡ true
-good_refl Buy p = grind (arith, ints)
-good_refl Sell p = grind (arith, ints)
-
-pub good_trans : (s : Side) (p q r : Price) → good s p q ≡ true → good s q r ≡ true → good s p r ≡ true
-good_trans Buy p q r h k = grind (arith, ints)
-good_trans Sell p q r h k = grind (arith, ints)
-
-pub good_total : (s : Side) (p q : Price) → good s p q ≡ false → good s q p ≡ true
-good_total Buy p q h = grind (arith, ints)
-good_total Sell p q h = grind (arith, ints)
-
--- ---- orders in rank
-
-abbrev Ranked : Side → List Order → Type 0
-Ranked s [] = Unit {0}
-Ranked s (o ∷ os) = All (λ x. good s o.price x.price ≡ true) os × Ranked s os
-
-all_placed : (P : Order → Type 0) (s : Side) (o : Order) (xs : List Order) → P o → All P xs → All P (placed s o xs)
-all_placed P s o [] h a = All-cons P o [] h (All-nil P)
-all_placed P s o (x ∷ xs) h a =
-    cond_both (good s o.price x.price) _ _ (All P)
-    (λ _. All-cons P o (x ∷ xs) h a)
-    (λ _. All-cons P x (placed s o xs) (All-head P x xs a) (all_placed P s o xs h (All-tail P x xs a)))
-
-placed_ranked : (s : Side) (o : Order) (xs : List Order) → Ranked s xs → Ranked s (placed s o xs)
-placed_ranked s o [] a = (All-nil (λ x. good s o.price x.price ≡ true), tt)
-placed_ranked s o (x ∷ xs) a =
-    let P = λ (p : Price) (y : Order). good s p y.price ≡ true in
-    cond_both (good s o.price x.price) _ _ (Ranked s)
-    (λ e. (All-cons (P o.price) x xs e (All-weaker (P x.price) (P o.price) (λ y g. good_trans s o.price x.price y.price e g) xs a.0), a))
-    (λ e. (all_placed (P x.price) s o xs (good_total s o.price x.price e) a.0, placed_ranked s o xs a.1))
-
-ranked_ranked : (s : Side) (os : List Order) → Ranked s (ranked s os)
-ranked_ranked s [] = tt
-ranked_ranked s (o ∷ os) = placed_ranked s o (ranked s os) (ranked_ranked s os)
+use Rattle.market.proofs.Places.{good_refl}
+use Rattle.market.proofs.RankedLadders.{InRank, ranked_in_rank}
 
 -- ---- contracts in order
 
@@ -75,7 +38,7 @@ in_order_front s (suc n) z zs a i = (
   in_order_front s n z zs a i,
 )
 
-contracts_in_order : (s : Side) (os : List Order) → Ranked s os → InOrder s (contracts os)
+contracts_in_order : (s : Side) (os : List Order) → InRank s os → InOrder s (contracts os)
 contracts_in_order s [] a = tt
 contracts_in_order s (o ∷ os) a =
     in_order_front s (quantity_of o) o.price.0 (contracts os) (all_contracts (AsGood s o.price.0) os a.0) (contracts_in_order s os a.1)
@@ -83,7 +46,7 @@ contracts_in_order s (o ∷ os) a =
 pub ladder_in_order : (b : BookId) (s : Side) (os : List Order) → InOrder s (ladder b s os)
 ladder_in_order b s os =
     let others = filter (stands b (opposite s)) os in
-    contracts_in_order s (ranked s others) (ranked_ranked s others)
+    contracts_in_order s (ranked s others) (ranked_in_rank s others)
 
 -- ---- contracts counted
 

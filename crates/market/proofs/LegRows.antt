@@ -8,7 +8,8 @@ use Rattle.market.specs.declared.row.Row.{Row}
 use Rattle.market.specs.declared.row.RowKind.{RowKind}
 use Rattle.market.specs.declared.row.RowKind.TheVariants as kind
 use Rattle.market.specs.Combinations.{neighbours, Rising}
-use Rattle.market.specs.Sessions.{is_combination, is_leg, leg_rows, of_leg}
+use Rattle.market.specs.Turns.{is_combination}
+use Rattle.market.specs.FairTrades.{is_leg, leg_rows, of_leg}
 
 -- ---- among the rows behind a combination trade
 

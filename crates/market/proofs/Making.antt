@@ -26,7 +26,7 @@ use Rattle.market.specs.Combinations.{size, is_minus, divisor, parts, turns, rat
 use Rattle.market.specs.BookCalls.{BookState}
 use Rattle.market.specs.Endings.{Ending, refused, done, Outcome, close, Follows}
 use Rattle.market.specs.Tables.{unless, first_broken}
-use Rattle.market.specs.Venues.{View, between, trading, request_fault, fault, band_of, known, at_book, Does, Does.at_fault, Does.enters, Does.cancels, Does.finds, Does.makes, Does.switches, Takes, Takes.unread, Takes.read}
+use Rattle.market.specs.Venues.{View, between, trading, request_fault, fault, band_of, known, at_book, Does, Does.at_fault, Does.enters, Does.amends, Does.quotes, Does.cancels, Does.finds, Does.makes, Does.switches, Takes, Takes.unread, Takes.read}
 use Rattle.market.proofs.Ratios.{unmapped, Nonzero, minus-ratio_of, size-reduced, normal_nonzero, normal_undivided}
 use Rattle.market.proofs.Tables.{passed, unless_none, map_none, broken_none}
 
@@ -275,6 +275,8 @@ module _ (shares : List ℕ → ℕ → List ℕ) where
   pub does_left : (v : View) (c : Call) (e : Ending View) → Table v → Does shares v c e → Left e
   does_left v c _ s (at_fault _ e h) = tt
   does_left v _ _ s (enters p i side q r d e h m) = book_left v e s
+  does_left v _ _ s (amends p n q r e h m) = book_left v e s
+  does_left v _ _ s (quotes p i q r k w e h m) = book_left v e s
   does_left v _ _ s (cancels p n e h m) = book_left v e s
   does_left v _ _ s (finds p legs c h k) = s
   does_left v _ _ s (makes p legs h k) = makes_table v legs.items (fit v p legs h) k s

@@ -12,15 +12,16 @@ use Rattle.market.specs.declared.price.Price.{Price}
 use Rattle.market.specs.declared.row.Row.{Row}
 use Rattle.market.specs.declared.row.RowKind.{RowKind}
 use Rattle.market.specs.declared.row.RowKind.TheVariants as kind
+use Rattle.market.specs.Fills.{facing, divided}
 use Rattle.market.specs.Implied.{ImpliedFill}
 use Rattle.market.specs.Levels.{NoneWithin}
 use Rattle.market.specs.Matching.{Match, Match.filled, Match.no_more, Match.fill, Match.implied}
 use Rattle.market.specs.Orders.{lot_book}
-use Rattle.market.specs.Sessions.{counted, resting}
+use Rattle.market.specs.Turns.{counted, resting}
 use Rattle.market.proofs.Asking.{Bounded, bounded_thins}
-use Rattle.market.proofs.Fills.{fill_kind}
+use Rattle.market.proofs.Fills.{fill_kind, fill_plain}
 use Rattle.market.proofs.ImpliedSums.{legs_thin, legs_other, units_counted, implied_plain}
-use Rattle.market.proofs.LevelSums.{level_thins, level_plain, level_own, level_other}
+use Rattle.market.proofs.LevelSums.{level_thins, level_own, level_other}
 use Rattle.market.proofs.Sizes.{book_kind, TradedBy, traded_by_lasts}
 use Rattle.market.proofs.Sums.{Plain, resting_below}
 use Rattle.market.proofs.Thinning.{Thins, thins_same, thins_then}
@@ -32,18 +33,14 @@ module _ (shares : List ℕ → ℕ → List ℕ) (legs : Option (List Leg)) (o 
   match_thins {q = q} {os = os} (fill p some best g first more) = thins_then (level_thins shares (lot_book o.lot) o.side p os q) (match_thins more)
   match_thins {f} (implied cs level has best i more) = thins_then (legs_thin shares f o.number i.takes) (match_thins more)
 
-  -- the rows name the order and those that it met
-  pub match_plain : (m : ℕ) → o.number < m → {f q f' q' : ℕ} {os os' : List Order} {rows : List Row} → Match shares legs o f q os rows f' q' os' →
-      All (λ x. x.number < m) os → All (Plain m) rows
-  match_plain m h filled a = All-nil (Plain m)
-  match_plain m h (no_more k w) a = All-nil (Plain m)
-  match_plain m h {f} {q} {os = os} (fill p some best g first more) a =
+  -- the rows cancel nothing
+  pub match_plain : {f q f' q' : ℕ} {os os' : List Order} {rows : List Row} → Match shares legs o f q os rows f' q' os' → All Plain rows
+  match_plain filled = All-nil Plain
+  match_plain (no_more k w) = All-nil Plain
+  match_plain {f} {q} {os = os} (fill p some best g first more) =
       let b = lot_book o.lot in
-      All-append (Plain m) _ _ (level_plain shares b o.side p os q f o.number m h legs a)
-      (match_plain m h more ((level_thins shares b o.side p os q).keeps (λ x. x.number < m) (λ x k l. l) a))
-  match_plain m h {f} (implied cs level has best i more) a =
-      All-append (Plain m) _ _ (implied_plain shares cs o m h i a)
-      (match_plain m h more ((legs_thin shares f o.number i.takes).keeps (λ x. x.number < m) (λ x k l. l) a))
+      All-append Plain _ _ (fill_plain f o.number legs (facing b o.side p os) (divided shares b o.side p os q)) (match_plain more)
+  match_plain (implied cs level has best i more) = All-append Plain _ _ (implied_plain shares cs o i) (match_plain more)
 
   -- a match that leaves something open leaves none within the limit
   pub match_clear : {f q f' q' : ℕ} {os os' : List Order} {rows : List Row} → Match shares legs o f q os rows f' q' os' → 0 < q' →

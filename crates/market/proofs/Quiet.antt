@@ -12,16 +12,20 @@ use Rattle.market.specs.declared.call.Call.{Call}
 use Rattle.market.specs.declared.leg.Leg.{Leg}
 use Rattle.market.specs.declared.order.Order.{Order}
 use Rattle.market.specs.declared.phase.Withdrawal.{Withdrawal}
+use Rattle.market.specs.declared.price.Price.{Price}
+use Rattle.market.specs.declared.quote.Quote.{Quote}
 use Rattle.market.specs.declared.refusal.Refusal.{Refusal}
 use Rattle.market.specs.declared.row.Row.{Row}
+use Rattle.market.specs.Amending.{Amends, Amends.in_place, Amends.no_number, Amends.arrives}
 use Rattle.market.specs.BookCalls.{BookState, Enters, Enters.no_number, Enters.no_room, Enters.settled, Cancels, Cancels.taken_out, leaves, withdrawn}
 use Rattle.market.specs.Combinations.{normal}
-use Rattle.market.specs.Endings.{Effect, Ending, refused, done, Outcome, close, Follows}
+use Rattle.market.specs.Endings.{Ending, refused, done, Outcome, close, Follows}
 use Rattle.market.specs.Ladders.{net_to, wanted}
 use Rattle.market.specs.Orders.{lot_book}
+use Rattle.market.specs.Quoting.{Quotes, Quotes.no_number, Quotes.no_room_bid, Quotes.no_room_offer, Quotes.placed}
 use Rattle.market.specs.Round.{legs_of, eligible, Round, Round.over, Round.takes}
 use Rattle.market.specs.Sessions.{Exists}
-use Rattle.market.specs.Venues.{View, withdraws, in_phase, at_book, Does, Does.at_fault, Does.enters, Does.cancels, Does.finds, Does.makes, Does.switches, Takes, Takes.unread, Takes.read}
+use Rattle.market.specs.Venues.{View, withdraws, in_phase, at_book, Does, Does.at_fault, Does.enters, Does.amends, Does.quotes, Does.cancels, Does.finds, Does.makes, Does.switches, Takes, Takes.unread, Takes.read}
 use Rattle.market.proofs.Thinner.{Thinner, thinner_without, thinner_filter, thinner_all, eligible_before}
 
 -- no resting order, quotes apart, has a unit 1 within its limit
@@ -50,14 +54,6 @@ legs_of_more cs legs (Combination c) (l, h) = elim (cases_Bool (ltb c 1001)) [
       ∙ ap Some (get_or_append_left cs (legs ∷ []) [] (c - 1001) within)
       ∙ sym (slice_get-get_or cs (c - 1001) [] within))
 ]
-
--- what exists goes on to exist
-pub exists_more : (cs : List (List Leg)) (legs : List Leg) (b : BookId) → Exists cs b → Exists (cs ++ legs ∷ []) b
-exists_more cs legs (Instrument i) h = h
-exists_more cs legs (Combination c) h = (h.0, legs_of_more cs legs (Combination c) h ∙ h.1)
-
-pub all_exist_more : (cs : List (List Leg)) (legs : List Leg) (os : List Order) → AllExist cs os → AllExist (cs ++ legs ∷ []) os
-all_exist_more cs legs os x = λ k o at. exists_more cs legs (lot_book (get_or os k o).lot) (x k o at)
 
 -- an order in what exists is as eligible with one combination more
 pub eligible_more : (cs : List (List Leg)) (legs : List Leg) (os : List Order) (o : Order) → Exists cs (lot_book o.lot) → eligible (cs ++ legs ∷ []) os o ≡ eligible cs os o
@@ -88,8 +84,19 @@ module _ (shares : List ℕ → ℕ → List ℕ) where
 
   enters_quiet : (cs : List (List Leg)) (m : BookState) (a : Arrival) (e : Ending BookState) → Enters shares cs m a e → QuietEnd cs e
   enters_quiet cs m a _ (no_number h) = tt
-  enters_quiet cs m a _ (no_room h day match some full) = tt
+  enters_quiet cs m a _ (no_room h full) = tt
   enters_quiet cs m a _ (settled h settles round) = round_quiet cs round
+
+  amends_quiet : (cs : List (List Leg)) (m : BookState) (p n q : ℕ) (r : Price) (e : Ending BookState) → Amends shares cs m p n q r e → QuietEnd cs e
+  amends_quiet cs m p n q r _ (in_place h round) = round_quiet cs round
+  amends_quiet cs m p n q r _ (no_number h spent) = tt
+  amends_quiet cs m p n q r _ (arrives h within settles round) = round_quiet cs round
+
+  quotes_quiet : (cs : List (List Leg)) (m : BookState) (quote : Quote) (e : Ending BookState) → Quotes shares cs m quote e → QuietEnd cs e
+  quotes_quiet cs m quote _ (no_number old spent) = tt
+  quotes_quiet cs m quote _ (no_room_bid old within new full) = tt
+  quotes_quiet cs m quote _ (no_room_offer old within bid new full) = tt
+  quotes_quiet cs m quote _ (placed old within bid offer round) = round_quiet cs round
 
 -- ---- the calls of a venue
 
@@ -114,6 +121,8 @@ module _ (shares : List ℕ → ℕ → List ℕ) (v : View) (q : QuietView v) (
   does_quiet : (c : Call) (e : Ending View) → Does shares v c e → QuietDone e
   does_quiet c _ (at_fault _ e h) = tt
   does_quiet _ _ (enters p i side n r d e h m) = at_book_quiet v e (enters_quiet shares v.combinations v.book _ e m)
+  does_quiet _ _ (amends p n k r e h m) = at_book_quiet v e (amends_quiet shares v.combinations v.book p n k r e m)
+  does_quiet _ _ (quotes p i n r k w e h m) = at_book_quiet v e (quotes_quiet shares v.combinations v.book _ e m)
   does_quiet _ _ (cancels p n e h m) = at_book_quiet v e (cancels_quiet v.combinations v.book p n e q m)
   does_quiet _ _ (finds p legs c h k) = q
   does_quiet _ _ (makes p legs h k) = quiet_more v.combinations (normal legs.items) v.book.orders x q
@@ -123,10 +132,6 @@ module _ (shares : List ℕ → ℕ → List ℕ) (v : View) (q : QuietView v) (
   ends_quiet : (r : Result Call Refusal) (e : Ending View) → Takes shares v r e → QuietDone e
   ends_quiet _ _ (unread e) = tt
   ends_quiet _ _ (read c e d) = does_quiet c e d
-
-  -- a call that is accepted leaves a quiet venue quiet
-  pub takes_quiet : (r : Result Call Refusal) (e : Effect View) → Takes shares v r (done e) → QuietView e.after
-  takes_quiet r e t = ends_quiet r (done e) t
 
   -- and so does every call, as its caller sees it
   pub follows_quiet : (r : Result Call Refusal) (room : ℕ) (answer : Result (ℕ × ℕ) Refusal) (rows : List Row) (v' : View) →

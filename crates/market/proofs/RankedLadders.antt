@@ -1,10 +1,10 @@
 -- Ladders, level by level: a ladder is its best level, and then the ladder of what is worse.
-use Rattle.std.proofs.Common.{◌≡◌, suc, ◌+◌, ◌<◌, Bool, true, false, cond, not, ◌&&◌, List, [], ◌∷◌, ◌++◌, length, replicate, filter, Some, None, Option, refl, sym, ap, ◌∙◌, ◌⊎◌, inl, inr, arith}
+use Rattle.std.proofs.Common.{◌≡◌, ◌<◌, Bool, true, false, cond, not, ◌&&◌, List, [], ◌∷◌, ◌++◌, length, replicate, filter, Some, None, Option, refl, sym, ap, ◌∙◌, ◌⊎◌, inl, inr, arith}
 use Rattle.std.specs.Prelude.{ℤ}
 use Rattle.std.specs.List.{All, Any}
 use Rattle.std.proofs.lemmas.Bool.{cases_Bool, cond_both, cond-true, and_parts, both_ways, not-true, ltb-false}
 use Rattle.std.proofs.lemmas.Int.{ints}
-use Rattle.std.proofs.lemmas.List.{append_assoc, replicate-append-replicate, length-append, length-replicate}
+use Rattle.std.proofs.lemmas.List.{append_assoc, replicate-append-replicate}
 use Rattle.std.proofs.lemmas.List.Elements.{All-nil, All-cons, All-head, All-tail, All-filter, All-weaker, filter_agree, filter_passes}
 use Rattle.rules.specs.Domain.{total}
 use Rattle.market.specs.declared.book_id.BookId.{BookId}
@@ -12,33 +12,13 @@ use Rattle.market.specs.declared.order.Order.{Order}
 use Rattle.market.specs.declared.price.Price.{Price}
 use Rattle.market.specs.declared.side.Side.{Side}
 use Rattle.market.specs.declared.side.Side.TheVariants.{Buy, Sell}
-use Rattle.market.specs.Fills.{facing, BestLevel}
+use Rattle.market.specs.Fills.{facing}
 use Rattle.market.specs.Ladders.{placed, ranked, contracts, ladder}
 use Rattle.market.specs.Levels.{in_level, quantities, Best, still_open}
 use Rattle.market.specs.Orders.{stands, quantity_of}
-use Rattle.market.specs.Prices.{opposite, good, same_price, as_price}
-
--- ---- prices, as a side sees them
-
-pub good_itself : (s : Side) (p : Price) → good s p p ≡ true
-good_itself Buy p = grind (arith, ints)
-good_itself Sell p = grind (arith, ints)
-
-pub good_chain : (s : Side) (p q r : Price) → good s p q ≡ true → good s q r ≡ true → good s p r ≡ true
-good_chain Buy p q r h k = grind (arith, ints)
-good_chain Sell p q r h k = grind (arith, ints)
-
-pub good_either : (s : Side) (p q : Price) → good s p q ≡ false → good s q p ≡ true
-good_either Buy p q h = grind (arith, ints)
-good_either Sell p q h = grind (arith, ints)
-
--- of prices none of which is better than p, those that are as good are p
-pub same_as_good : (s : Side) (p q : Price) → good s p q ≡ true → same_price q p ≡ good s q p
-same_as_good Buy p q h = grind (arith, ints)
-same_as_good Sell p q h = grind (arith, ints)
-
-pub same_price_is : (p q : Price) → same_price p q ≡ true → p ≡ q
-same_price_is p q h = let e : p.0 ≡ q.0 = grind (arith, ints) in ap as_price e
+use Rattle.market.specs.Prices.{opposite, good, same_price}
+use Rattle.market.proofs.Lists.{any_first, any_behind}
+use Rattle.market.proofs.Places.{same_price_is, good_refl, good_trans, good_total, same_as_good}
 
 -- ---- lists
 
@@ -84,7 +64,7 @@ all_ranked P s (o ∷ xs) a = all_placed P s o (ranked s xs) (All-head P o xs a)
 
 placed_first : (s : Side) (p : Price) (o : Order) (xs : List Order) → good s o.price p ≡ true → All (λ x. good s p x.price ≡ true) xs → placed s o xs ≡ o ∷ xs
 placed_first s p o [] h a = refl
-placed_first s p o (x ∷ xs) h a = cond-true _ _ _ (good_chain s o.price p x.price h (All-head (λ y. good s p y.price ≡ true) x xs a))
+placed_first s p o (x ∷ xs) h a = cond-true _ _ _ (good_trans s o.price p x.price h (All-head (λ y. good s p y.price ≡ true) x xs a))
 
 -- one that is worse than p goes behind all that are as good
 worse_than_level : (s : Side) (p q r : Price) → good s q p ≡ false → good s r p ≡ true → good s q r ≡ false
@@ -100,7 +80,7 @@ placed_behind s p o (x ∷ fs) bs h a =
 -- ---- orders in rank
 
 -- each is at least as good as all behind it
-abbrev InRank : Side → List Order → Type 0
+abbrev pub InRank : Side → List Order → Type 0
 InRank s [] = Unit {0}
 InRank s (o ∷ os) = All (λ x. good s o.price x.price ≡ true) os × InRank s os
 
@@ -108,10 +88,10 @@ placed_in_rank : (s : Side) (o : Order) (xs : List Order) → InRank s xs → In
 placed_in_rank s o [] h = (All-nil (λ x. good s o.price x.price ≡ true), tt)
 placed_in_rank s o (x ∷ xs) h =
     cond_both (good s o.price x.price) _ _ (InRank s)
-    (λ e. (All-cons (λ y. good s o.price y.price ≡ true) x xs e (All-weaker (λ y. good s x.price y.price ≡ true) (λ y. good s o.price y.price ≡ true) (λ y k. good_chain s o.price x.price y.price e k) xs h.0), h))
-    (λ e. (all_placed (λ y. good s x.price y.price ≡ true) s o xs (good_either s o.price x.price e) h.0, placed_in_rank s o xs h.1))
+    (λ e. (All-cons (λ y. good s o.price y.price ≡ true) x xs e (All-weaker (λ y. good s x.price y.price ≡ true) (λ y. good s o.price y.price ≡ true) (λ y k. good_trans s o.price x.price y.price e k) xs h.0), h))
+    (λ e. (all_placed (λ y. good s x.price y.price ≡ true) s o xs (good_total s o.price x.price e) h.0, placed_in_rank s o xs h.1))
 
-ranked_in_rank : (s : Side) (xs : List Order) → InRank s (ranked s xs)
+pub ranked_in_rank : (s : Side) (xs : List Order) → InRank s (ranked s xs)
 ranked_in_rank s [] = tt
 ranked_in_rank s (o ∷ xs) = placed_in_rank s o (ranked s xs) (ranked_in_rank s xs)
 
@@ -121,8 +101,8 @@ filter_placed s test o [] h = refl
 filter_placed s test o (x ∷ xs) h = elim (cases_Bool (good s o.price x.price)) [
   | inl e ↦
       let as_good : Order → Type 0 = λ y. good s o.price y.price ≡ true in
-      let a = All-cons as_good x xs e (All-weaker (λ y. good s x.price y.price ≡ true) as_good (λ y k. good_chain s o.price x.price y.price e k) xs h.0) in
-      let first = placed_first s o.price o (filter test (x ∷ xs)) (good_itself s o.price) (All-filter test as_good (x ∷ xs) a) in
+      let a = All-cons as_good x xs e (All-weaker (λ y. good s x.price y.price ≡ true) as_good (λ y k. good_trans s o.price x.price y.price e k) xs h.0) in
+      let first = placed_first s o.price o (filter test (x ∷ xs)) (good_refl s o.price) (All-filter test as_good (x ∷ xs) a) in
       rw (e, first) refl
   | inr e ↦ elim (cases_Bool (test x)) [
     | inl k ↦ rw (e, k, e, filter_placed s test o xs h.1) (elim (cases_Bool (test o)) [ inl t ↦ rw t refl | inr t ↦ rw t refl ])
@@ -275,9 +255,6 @@ ladder_beyond_best b s from os p best =
       filter_agree (λ o. beyond b s from o && not (good s o.price p)) (beyond b s (Some p)) (past_level b s from p h) os,
     ) refl
 
-pub ladder_beyond_nobody : (b : BookId) (s : Side) (from : Option Price) (os : List Order) → All (λ o. beyond b s from o ≡ false) os → ladder_beyond b s from os ≡ []
-ladder_beyond_nobody b s from os a = rungs_nobody s (beyond b s from) os a
-
 pub ladder_nobody : (b : BookId) (s : Side) (os : List Order) → All (λ o. stands b (opposite s) o ≡ false) os → ladder b s os ≡ []
 ladder_nobody b s os a = rungs_nobody s (stands b (opposite s)) os a
 
@@ -310,47 +287,17 @@ pub ladder_best : (b : BookId) (s : Side) (os : List Order) (p : Price) → Best
     ladder b s os ≡ replicate (total (quantities (facing b s p os))) p.0 ++ ladder b s (filter (λ o. not (in_level b (opposite s) p o)) os)
 ladder_best b s os p best = ladder_split b s p os best.none_better
 
--- ---- how long they are
-
-contracts_length : (xs : List Order) → length (contracts xs) ≡ total (quantities xs)
-contracts_length [] = refl
-contracts_length (o ∷ xs) = omega (arith, contracts_length xs, length-append (replicate (quantity_of o) o.price.0) (contracts xs), length-replicate (quantity_of o) o.price.0)
-
-total_placed : (s : Side) (o : Order) (xs : List Order) → total (quantities (placed s o xs)) ≡ quantity_of o + total (quantities xs)
-total_placed s o [] = refl
-total_placed s o (x ∷ xs) =
-    cond_both (good s o.price x.price) _ _ (λ ys. total (quantities ys) ≡ quantity_of o + total (quantities (x ∷ xs)))
-    (λ _. refl)
-    (λ _. omega (arith, total_placed s o xs))
-
-total_ranked : (s : Side) (xs : List Order) → total (quantities (ranked s xs)) ≡ total (quantities xs)
-total_ranked s [] = refl
-total_ranked s (o ∷ xs) = omega (arith, total_placed s o (ranked s xs), total_ranked s xs)
-
-pub rungs_length : (s : Side) (test : Order → Bool) (os : List Order) → length (rungs s test os) ≡ total (quantities (filter test os))
-rungs_length s test os = contracts_length (ranked s (filter test os)) ∙ total_ranked s (filter test os)
-
--- a ladder has all that is open on its side
-pub ladder_length : (b : BookId) (s : Side) (os : List Order) → length (ladder b s os) ≡ total (quantities (filter (stands b (opposite s)) os))
-ladder_length b s os = rungs_length s (stands b (opposite s)) os
-
 -- ---- where there is an order there is a best price
-
-pub any_head : {X : Type 0} (P : X → Type 0) (x : X) (xs : List X) → P x → Any P (x ∷ xs)
-any_head P x xs h = (0, x, omega arith, refl, h)
-
-pub any_tail : {X : Type 0} (P : X → Type 0) (x : X) (xs : List X) → Any P xs → Any P (x ∷ xs)
-any_tail P x xs h = (suc h.0, h.1, omega (arith, h.2), h.3, h.4)
 
 best_of_one : (s : Side) (test : Order → Bool) (o : Order) (os : List Order) → test o ≡ true → All (λ x. test x ≡ true → good s o.price x.price ≡ true) os → BestOf s test (o ∷ os) o.price
 best_of_one s test o os e a = record {
-  there = any_head (λ x. (test x ≡ true) × (x.price ≡ o.price)) o os (e, refl);
-  none_better = All-cons (λ x. test x ≡ true → good s o.price x.price ≡ true) o os (λ _. good_itself s o.price) a;
+  there = any_first (λ x. (test x ≡ true) × (x.price ≡ o.price)) o os (e, refl);
+  none_better = All-cons (λ x. test x ≡ true → good s o.price x.price ≡ true) o os (λ _. good_refl s o.price) a;
 }
 
 best_of_rest : (s : Side) (test : Order → Bool) (o : Order) (os : List Order) (p : Price) → (test o ≡ true → good s p o.price ≡ true) → BestOf s test os p → BestOf s test (o ∷ os) p
 best_of_rest s test o os p h best = record {
-  there = any_tail (λ x. (test x ≡ true) × (x.price ≡ p)) o os best.there;
+  there = any_behind (λ x. (test x ≡ true) × (x.price ≡ p)) o os best.there;
   none_better = All-cons (λ x. test x ≡ true → good s p x.price ≡ true) o os h best.none_better;
 }
 
@@ -361,20 +308,14 @@ nobody_or_best s test (o ∷ os) = elim (cases_Bool (test o)) [
   | inl e ↦ elim (nobody_or_best s test os) [
     | inl none ↦ inr (o.price, best_of_one s test o os e (All-weaker (λ x. test x ≡ false) (λ x. test x ≡ true → good s o.price x.price ≡ true) (λ x h k. absurd (both_ways (test x) h k)) os none))
     | inr best ↦ elim (cases_Bool (good s o.price best.0)) [
-      | inl g ↦ inr (o.price, best_of_one s test o os e (All-weaker (λ x. test x ≡ true → good s best.0 x.price ≡ true) (λ x. test x ≡ true → good s o.price x.price ≡ true) (λ x h k. good_chain s o.price best.0 x.price g (h k)) os best.1.none_better))
-      | inr g ↦ inr (best.0, best_of_rest s test o os best.0 (λ _. good_either s o.price best.0 g) best.1)
+      | inl g ↦ inr (o.price, best_of_one s test o os e (All-weaker (λ x. test x ≡ true → good s best.0 x.price ≡ true) (λ x. test x ≡ true → good s o.price x.price ≡ true) (λ x h k. good_trans s o.price best.0 x.price g (h k)) os best.1.none_better))
+      | inr g ↦ inr (best.0, best_of_rest s test o os best.0 (λ _. good_total s o.price best.0 g) best.1)
     ]
   ]
   | inr e ↦ elim (nobody_or_best s test os) [
     | inl none ↦ inl (All-cons (λ x. test x ≡ false) o os e none)
     | inr best ↦ inr (best.0, best_of_rest s test o os best.0 (λ k. absurd (both_ways (test o) e k)) best.1)
   ]
-]
-
-pub best_level_exists : (b : BookId) (s : Side) (os : List Order) → (l : Option Price) × BestLevel b s os l
-best_level_exists b s os = elim (nobody_or_best s (stands b (opposite s)) os) [
-  | inl none ↦ (None, none)
-  | inr best ↦ (Some best.0, record { there = best.1.there; none_better = best.1.none_better })
 ]
 
 -- where a ladder has a contract there is a best level

@@ -1,9 +1,9 @@
 -- Along the round nothing is lost, and what stands in the book stays what it was.
-use Rattle.std.proofs.Common.{◌≡◌, ℕ, ◌+◌, ◌-◌, ◌<◌, ◌≤◌, Bool, true, false, cond, eqb, List, [], ◌∷◌, ◌++◌, Some, refl, ap, sym, ◌∙◌, arith}
+use Rattle.std.proofs.Common.{◌≡◌, ℕ, ◌+◌, ◌-◌, ◌≤◌, Bool, true, false, cond, eqb, List, [], ◌∷◌, ◌++◌, Some, refl, ap, sym, ◌∙◌, arith}
 use Rattle.std.specs.List.{All}
 use Rattle.std.proofs.lemmas.Bool.{true≢false}
 use Rattle.std.proofs.lemmas.Bool.Decides.{nat_tests}
-use Rattle.std.proofs.lemmas.List.Elements.{All-nil, All-head, All-append}
+use Rattle.std.proofs.lemmas.List.Elements.{All-nil, All-append}
 use Rattle.std.proofs.lemmas.List.Sums.{sum_by-append}
 use Rattle.rules.specs.Domain.{Laws}
 use Rattle.market.specs.declared.book_id.BookId.{BookId}
@@ -15,13 +15,14 @@ use Rattle.market.specs.declared.row.RowKind.{RowKind}
 use Rattle.market.specs.declared.row.RowKind.TheVariants as kind
 use Rattle.market.specs.Orders.{lot_book, quantity_of, less}
 use Rattle.market.specs.Round.{legs_of, FirstEligible, left_of, Round, Round.over, Round.takes}
-use Rattle.market.specs.Sessions.{counted, resting}
+use Rattle.market.specs.Turns.{counted, resting}
 use Rattle.market.proofs.Asking.{Bounded, bounded_thins}
 use Rattle.market.proofs.Fills.{resting_open}
 use Rattle.market.proofs.ImpliedSums.{legs_thin, legs_other, units_counted, implied_plain}
+use Rattle.market.proofs.Lists.{all_middle}
 use Rattle.market.proofs.Sizes.{lot_size-sized, book_kind, TradedBy, traded_by_lasts}
 use Rattle.market.proofs.Sums.{resting-cons, Plain}
-use Rattle.market.proofs.Thinning.{Thins, thins_same, thins_then, all_parts, left_thins}
+use Rattle.market.proofs.Thinning.{Thins, thins_same, thins_then, left_thins}
 
 -- only a combination has legs
 legs_combined : (cs : List (List Leg)) (b : BookId) (legs : List Leg) → legs_of cs b ≡ Some legs → book_kind b ≡ kind.Combination
@@ -47,15 +48,12 @@ module _ (shares : List ℕ → ℕ → List ℕ) (cs : List (List Leg)) where
   round_thins {f} (takes {u = u} ahead o behind legs first has i more) = thins_then (first_thins u first) (thins_then (legs_thin shares f o.number i.takes) (round_thins more))
 
   first_is : (P : Order → Type 0) {os ahead behind : List Order} {o : Order} → FirstEligible cs os ahead o behind → All P os → P o
-  first_is P {ahead = ahead} {behind} {o} first a = All-head P o behind (all_parts P ahead (o ∷ behind) (rw first.stands at a)).1
+  first_is P {ahead = ahead} {behind} {o} first a = all_middle P ahead o behind (rw first.stands at a)
 
-  -- the rows name orders of the book
-  pub round_plain : (m : ℕ) {f f' : ℕ} {os os' : List Order} {rows : List Row} → Round shares cs f os rows f' os' → All (λ x. x.number < m) os → All (Plain m) rows
-  round_plain m (over none) a = All-nil (Plain m)
-  round_plain m {f} (takes {u = u} ahead o behind legs first has i more) a =
-      let before = (first_thins u first).keeps (λ x. x.number < m) (λ x k l. l) a in
-      All-append (Plain m) _ _ (implied_plain shares legs o m (first_is (λ x. x.number < m) first a) i before)
-      (round_plain m more ((legs_thin shares f o.number i.takes).keeps (λ x. x.number < m) (λ x k l. l) before))
+  -- the rows cancel nothing
+  pub round_plain : {f f' : ℕ} {os os' : List Order} {rows : List Row} → Round shares cs f os rows f' os' → All Plain rows
+  round_plain (over none) = All-nil Plain
+  round_plain (takes ahead o behind legs first has i more) = All-append Plain _ _ (implied_plain shares legs o i) (round_plain more)
 
   -- what rested, it traded or still rests
   module _ (laws : Laws shares) (is : RowKind → Bool) (leg : is kind.Leg ≡ false) (only : is kind.Combination ≡ true → is kind.Trade ≡ false) (n : ℕ) (low : 1 ≤ n) where

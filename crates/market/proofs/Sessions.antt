@@ -1,36 +1,34 @@
 -- The law over sessions, by induction over the turns, under any rule that keeps its laws.
-use Rattle.std.proofs.Common.{◌≡◌, ℕ, ◌<◌, ◌≤◌, false, List, [], ◌∷◌, Result, inl, inr, arith}
-use Rattle.std.proofs.lemmas.List.Elements.{All-nil}
-use Rattle.std.proofs.lemmas.Bool.{cases_eq}
+use Rattle.std.proofs.Common.{◌≡◌, ℕ, false, List, [], ◌∷◌, Result}
+use Rattle.std.specs.List.{All}
+use Rattle.std.proofs.lemmas.List.Elements.{All-nil, All-cons, All-weaker}
 use Rattle.rules.specs.Domain.{Laws}
 use Rattle.market.specs.declared.call.Call.{Call}
 use Rattle.market.specs.declared.refusal.Refusal.{Refusal}
 use Rattle.market.specs.Endings.{Follows}
 use Rattle.market.specs.Round.{eligible}
-use Rattle.market.specs.Sessions.{Turn, Given, Reached, Reached.built, Reached.turn, AbsentOrGiven, EachFair, Sound}
+use Rattle.market.specs.Turns.{Turn}
+use Rattle.market.specs.Entries.{Entered.earlier}
+use Rattle.market.specs.Parties.{Named}
+use Rattle.market.specs.FairTrades.{EachFair}
+use Rattle.market.specs.Sessions.{Reached, Reached.built, Reached.turn, Sound}
 use Rattle.market.specs.Venues.{View, fresh, Takes}
-use Rattle.market.proofs.FairCalls.{turn_fair}
+use Rattle.market.proofs.FairCalls.{turn_told}
 use Rattle.market.proofs.FairReports.{fair_turns}
 use Rattle.market.proofs.Making.{Table, fresh_table, follows_table}
+use Rattle.market.proofs.Parties.{named_later}
 use Rattle.market.proofs.Quiet.{QuietView, follows_quiet}
-use Rattle.market.proofs.Standing.{entered-given, Standing, standing_more, fresh-stands}
+use Rattle.market.proofs.SingleQuotes.{SingleQuotes, fresh_single, follows_single}
+use Rattle.market.proofs.Standing.{Standing, PastNamed, stands_rested, said_entered, standing_more, fresh-stands}
 use Rattle.market.proofs.Taking.{Came, follows_came, came_moves}
 
 module _ {Message : Type 0} (reading : Message → Result Call Refusal) where
-  module _ (h : List (Turn Message)) (v : View) (s : Standing reading h v) where
-    given_used : (n : ℕ) → 1 ≤ n → n < v.book.next → Given reading h n
-    given_used n low high = let r = s.numbered n low high in rw (← r.1) (entered-given reading r.2)
-
-    absent_or_given : (n : ℕ) → n < v.book.next → AbsentOrGiven reading h n
-    absent_or_given n high = elim (cases_eq n 0) [
-      | inl e ↦ inl e
-      | inr ne ↦ inr (given_used n (omega arith) high)
-    ]
-
-  -- what holds of a session: sums, numbers and what rests, fair reports, and a quiet venue
+  -- what holds of a session: sums, numbers and what rests, fair reports that name whom they should, and a quiet venue
   record Lawful (h : List (Turn Message)) (v : View) : Type 0 where
     standing : Standing reading h v
+    named : PastNamed reading h v
     fair : EachFair reading v.combinations h
+    single : SingleQuotes v
     quiet : QuietView v
     table : Table v
 
@@ -41,11 +39,13 @@ module _ {Message : Type 0} (reading : Message → Result Call Refusal) where
         conserved = s.conserved;
         numbered = s.numbered;
         no_other = s.no_other;
-        named = λ i t at j row at'. let k = s.named i t at j row at' in (absent_or_given h v s _ k.0, absent_or_given h v s _ k.1);
-        rests_entered = λ i o at. let w = s.written i o at in record { entry = w.entry; entered = w.entered; number = w.number; book = w.book; side = w.side; limit = w.limit };
+        named = l.named;
+        rests_entered = λ i o at. let w = s.written i o at in record { entry = w.entry; entered = w.entered; number = w.number; participant = w.participant; book = w.book; side = w.side; limit = w.limit; quote = w.quote };
+        single_quotes = l.single;
         rests_made = s.made;
         fair = l.fair;
         uncrossed = s.orderly.uncrossed;
+        by_arrival = s.orderly.by_arrival;
         quiet = l.quiet;
         table = l.table;
       }
@@ -59,10 +59,16 @@ module _ {Message : Type 0} (reading : Message → Result Call Refusal) where
       lawful_more : Lawful h u → Lawful (t ∷ h) v
       lawful_more l =
           let s = l.standing in
-          let moves = came_moves shares laws u (reading t.message) s.orderly turn_came in
+          let came = came_moves shares laws u (reading t.message) s.orderly (stands_rested reading h u s) turn_came in
+          let m = came.moves in
+          let told = turn_told reading shares laws t h u v s (said_entered reading h u s t) f in
           record {
-            standing = standing_more reading t h u v s moves;
-            fair = (turn_fair reading shares laws t h u v s moves f, fair_turns reading u.combinations v.combinations moves.grows h l.fair);
+            standing = standing_more reading t h u v s l.named came.new came.says m;
+            named = All-cons (λ x. All (Named reading (t ∷ h) v.combinations) x.rows) t h told.1
+                (All-weaker (λ x. All (Named reading h u.combinations) x.rows) (λ x. All (Named reading (t ∷ h) v.combinations) x.rows)
+                (λ x. named_later reading h (t ∷ h) u.combinations v.combinations (λ e. earlier) m.grows x.rows) h l.named);
+            fair = (told.0, fair_turns reading u.combinations v.combinations m.grows h l.fair);
+            single = follows_single shares u v (reading t.message) t.room t.answer t.rows l.single f;
             quiet = follows_quiet shares u l.quiet s.made (reading t.message) t.room t.answer t.rows v f;
             table = follows_table shares u v (reading t.message) t.room t.answer t.rows l.table f;
           }
@@ -70,7 +76,9 @@ module _ {Message : Type 0} (reading : Message → Result Call Refusal) where
     lawful : {h : List (Turn Message)} {v : View} → Reached reading shares h v → Lawful h v
     lawful {v = v} (built e) = record {
       standing = fresh-stands reading v e;
+      named = All-nil (λ t. All (Named reading [] v.combinations) t.rows);
       fair = tt;
+      single = rw e (fresh_single v.product v.bands);
       quiet = rw e (All-nil (λ o. eligible [] [] o ≡ false));
       table = rw e (fresh_table v.product v.bands);
     }

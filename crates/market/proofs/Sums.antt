@@ -1,8 +1,8 @@
--- Sums over lists: what rows and a book come to for one order.
+-- Sums over lists: what rows and a book come to for one order, and whom rows name.
 use Rattle.std.proofs.Common.{◌≡◌, ℕ, ◌+◌, ◌<◌, ◌≤◌, Bool, true, false, cond, eqb, ◌&&◌, List, [], ◌∷◌, ◌++◌, arith}
 use Rattle.std.specs.List.{All, sum_by}
 use Rattle.std.proofs.lemmas.Bool.Decides.{nat_tests}
-use Rattle.std.proofs.lemmas.List.Elements.{All-nil, All-cons, All-weaker}
+use Rattle.std.proofs.lemmas.List.Elements.{All-weaker}
 use Rattle.std.proofs.lemmas.List.Folds.{sum_by-replicate}
 use Rattle.std.proofs.lemmas.List.Sums.{sum_by-le, sum_by-cons, sum_by-append, sum_by_push}
 use Rattle.market.specs.declared.order.Order.{Order}
@@ -11,7 +11,7 @@ use Rattle.market.specs.declared.row.RowKind.{RowKind}
 use Rattle.market.specs.declared.row.RowKind.TheVariants as kind
 use Rattle.market.specs.Orders.{quantity_of}
 use Rattle.market.specs.Rows.{blank}
-use Rattle.market.specs.Sessions.{Turn, trades, is_cancellation, names, counted, over, resting}
+use Rattle.market.specs.Turns.{Turn, trades, is_cancellation, names, counted, over, resting}
 
 -- where every element counts for nothing, so does the sum
 sum_by-nothing : {X : Type 0} (P : X → Type 0) (f : X → ℕ) → ((x : X) → P x → f x ≤ 0) → (xs : List X) → All P xs → sum_by f xs ≡ 0
@@ -44,38 +44,32 @@ gone-append i n rows rows' = omega (arith, sum_by-append {X = Row})
 pub gone-blank : (i n k : ℕ) → gone i n (blank k) ≡ 0
 gone-blank i n k = grind (arith, sum_by-replicate {X = Row}, nat_tests)
 
--- buyer and seller are below m
+-- ---- the numbers that rows name
+
+-- the order has a number that was given, where m is the next
+abbrev pub Used : ℕ → Order → Type 0
+Used m o = (1 ≤ o.number) × (o.number < m)
+
+-- a row that cancels nothing
+abbrev pub Plain : Row → Type 0
+Plain row = is_cancellation row.kind ≡ false
+
+-- trades cancel nothing
+pub plain_cancels_none : (n : ℕ) (rows : List Row) → All Plain rows → counted is_cancellation n rows ≡ 0
+plain_cancels_none n = sum_by-nothing Plain _ (λ row p. grind arith)
+
+-- the numbers in the row are below m, as 0 is
 abbrev pub NumbersBelow : ℕ → Row → Type 0
 NumbersBelow m row = (row.buyer < m) × (row.seller < m)
 
--- a row of a trade, whose numbers are below m
-pub record Plain (m : ℕ) (row : Row) : Type 0 where
-  pub below : NumbersBelow m row
-  pub uncancelled : is_cancellation row.kind ≡ false
-
-pub plain_below : (m : ℕ) (rows : List Row) → All (Plain m) rows → All (NumbersBelow m) rows
-plain_below m = All-weaker (Plain m) (NumbersBelow m) (λ row p. p.below)
-
--- trades cancel nothing
-pub plain_cancels_none : (m n : ℕ) (rows : List Row) → All (Plain m) rows → counted is_cancellation n rows ≡ 0
-plain_cancels_none m n = sum_by-nothing (Plain m) _ (λ row p. grind (arith, p.uncancelled))
-
--- one row alone
-pub one_below : (m : ℕ) (row : Row) → NumbersBelow m row → All (NumbersBelow m) (row ∷ [])
-one_below m row b = All-cons (NumbersBelow m) row [] b (All-nil (NumbersBelow m))
-
--- all rows of all turns name numbers below m
-abbrev pub NamedBelow : {Message : Type 0} → ℕ → List (Turn Message) → Type 0
-NamedBelow m h = All (λ t. All (NumbersBelow m) t.rows) h
+-- orders whose numbers are all below n
+pub resting_below : (m n : ℕ) → m ≤ n → (os : List Order) → All (λ o. o.number < m) os → resting n os ≡ 0
+resting_below m n le = sum_by-nothing (λ o. o.number < m) _ (λ o b. grind (arith, nat_tests))
 
 module _ (m n : ℕ) (le : m ≤ n) where
   -- rows whose numbers are all below n say nothing of n
   counted_below : (is : RowKind → Bool) (rows : List Row) → All (NumbersBelow m) rows → counted is n rows ≡ 0
   counted_below is = sum_by-nothing (NumbersBelow m) _ (λ row b. grind (arith, nat_tests))
 
-  pub over_below : {Message : Type 0} (is : RowKind → Bool) (h : List (Turn Message)) → NamedBelow m h → over is n h ≡ 0
+  pub over_below : {Message : Type 0} (is : RowKind → Bool) (h : List (Turn Message)) → All (λ t. All (NumbersBelow m) t.rows) h → over is n h ≡ 0
   over_below is = sum_by-nothing (λ t. All (NumbersBelow m) t.rows) _ (λ t a. omega (arith, counted_below is t.rows a))
-
-  -- orders whose numbers are all below n
-  pub resting_below : (os : List Order) → All (λ o. o.number < m) os → resting n os ≡ 0
-  resting_below = sum_by-nothing (λ o. o.number < m) _ (λ o b. grind (arith, nat_tests))

@@ -1,8 +1,8 @@
 -- What taking contracts does to ladders: a fill drops the front of the ladder that it takes from, and leaves every other ladder as it was.
-use Rattle.std.proofs.Common.{◌≡◌, ℕ, zero, suc, ◌+◌, ◌-◌, ◌<◌, ◌≤◌, Bool, true, false, not, eqb, List, [], ◌∷◌, ◌++◌, length, take, drop, replicate, filter, None, refl, sym, ap, ◌∙◌, ◌⊎◌, inl, inr, arith}
+use Rattle.std.proofs.Common.{◌≡◌, ℕ, ◌+◌, ◌-◌, ◌<◌, ◌≤◌, Bool, true, false, not, eqb, List, [], ◌∷◌, ◌++◌, length, take, drop, replicate, filter, None, refl, sym, ap, ◌∙◌, ◌⊎◌, inl, inr, arith}
 use Rattle.std.specs.Prelude.{ℤ}
 use Rattle.std.specs.List.{All, sum_by}
-use Rattle.std.proofs.lemmas.Bool.{cases_Bool, cases_lt, cond_both, and_parts, and_left, and_right, eqb-true, le-ltb}
+use Rattle.std.proofs.lemmas.Bool.{cases_Bool, cond_both, and_parts, and_left, and_right, eqb-true}
 use Rattle.std.proofs.lemmas.Bool.Decides.{nat_tests}
 use Rattle.std.proofs.lemmas.List.{append_assoc, replicate-append-replicate, length-append, length-drop, length-replicate, length-take, drop-append-le, drop-replicate, drop-drop, drop-take, take-append-drop, take-append-le, take-replicate, take-take}
 use Rattle.std.proofs.lemmas.List.Elements.{All-nil, All-cons, All-head, All-tail, All-append, All-weaker, filter_passes}
@@ -20,15 +20,15 @@ use Rattle.market.specs.Fills.{facing, given, divided, filled_book}
 use Rattle.market.specs.Implied.{Taken}
 use Rattle.market.specs.Implied.Taken.{taken_all, next_level}
 use Rattle.market.specs.Ladders.{contracts, ranked, ladder}
-use Rattle.market.specs.Levels.{in_level, level, quantities, Best, reduced, still_open, after_fill}
+use Rattle.market.specs.Levels.{in_level, level, quantities, Best, reduced, after_fill}
 use Rattle.market.specs.Orders.{lot_book, stands, quantity_of, less, same_book, book_number}
 use Rattle.market.specs.Prices.{opposite, good, same_side, same_price}
 use Rattle.market.specs.Rows.{buyer_of, trade_row, some_rows, fill_rows}
-use Rattle.market.specs.Sessions.{prices_of, on_side}
-use Rattle.market.proofs.Asking.{Bounded, bounded_after_fill, level_some, shares_below, shares_total}
+use Rattle.market.specs.FairTrades.{prices_of, on_side}
+use Rattle.market.proofs.Asking.{Bounded, bounded_after_fill, shares_below, shares_total}
 use Rattle.market.proofs.RankedLadders.{ladder_split, ladder_best, ladder_open, level_price, best_exists}
 use Rattle.market.proofs.Sizes.{lot_size-sized, lot_book-sized}
-use Rattle.market.proofs.Thinning.{all_reduced, length-kept_le, length-after_fill}
+use Rattle.market.proofs.Thinning.{all_reduced}
 
 -- ---- an order less what has traded stands where it stood
 
@@ -306,56 +306,3 @@ pub can_go_on : (shares : List ℕ → ℕ → List ℕ) (laws : Laws shares) (b
     q ≤ length (ladder b s os) → q - given b s p os q ≤ length (ladder b s (filled_book shares b s p os q))
 can_go_on shares laws b s p os q bounded best enough =
     omega (arith, ap length (filled_ladder shares laws b s p os q bounded best), length-drop (given b s p os q) (ladder b s os))
-
-none_for_none : (xs : List Order) → Below [] (quantities xs) → length xs ≡ 0
-none_for_none [] h = refl
-none_for_none (o ∷ xs) h = absurd h
-
--- where a level has nothing open, a fill takes its orders out
-drained : (test : Order → Bool) (os : List Order) (ks : List ℕ) → Below ks (quantities (filter test os)) → total (quantities (filter test os)) ≡ 0 →
-    length (after_fill test os ks) + length (filter test os) ≤ length os
-drained test [] ks below none = omega arith
-drained test (o ∷ os) [] below none = omega (arith, none_for_none (filter test (o ∷ os)) below, length-kept_le still_open (o ∷ os))
-drained test (o ∷ os) (k ∷ ks) below none = elim (cases_Bool (test o)) [
-  | inl e ↦
-      let b : (k ≤ quantity_of o) × Below ks (quantities (filter test os)) = rw e at below in
-      let t : quantity_of o + total (quantities (filter test os)) ≡ 0 = rw e at none in
-      let rest = drained test os ks b.1 (omega arith) in
-      let empty : quantity_of (less o k) ≡ 0 = omega (arith, lot_size-sized o.lot (quantity_of o - k)) in
-      rw (e, le-ltb 0 (quantity_of (less o k)) (omega arith)) (omega arith)
-  | inr e ↦
-      let rest = drained test os (k ∷ ks) (rw e at below) (rw e at none) in
-      rw e (cond_both (still_open o) _ _ (λ xs. length xs + length (filter test os) ≤ length (o ∷ os)) (λ _. omega arith) (λ _. omega arith))
-]
-
-module _ (shares : List ℕ → ℕ → List ℕ) (laws : Laws shares) (f n : ℕ) (b : BookId) (s : Side) where
-  -- each fill takes contracts, or orders out
-  pub fill_shrinks : (p : Price) (os : List Order) (q : ℕ) → 0 < q → Bounded os → Best b s os p →
-      (q - given b s p os q) + length (filled_book shares b s p os q) < q + length os
-  fill_shrinks p os q h bounded best =
-      let test = in_level b (opposite s) p in
-      let ks : List ℕ = divided shares b s p os q in
-      elim (cases_lt 0 (total (quantities (facing b s p os)))) [
-        | inl lt ↦ omega (arith, length-after_fill test os ks)
-        | inr le ↦ omega (arith, drained test os ks (shares_below shares laws b s p os q bounded best) (omega arith), level_some b (opposite s) p os best.there)
-      ]
-
-  take_next : (p : Price) (q : ℕ) (os os' : List Order) (rows : List Row) → 0 < q → Best b s os p →
-      Taken shares f n b s (q - given b s p os q) (filled_book shares b s p os q) rows os' → (rows : List Row) × (os' : List Order) × Taken shares f n b s q os rows os'
-  take_next p q os os' rows h best t = (fill_rows f n None (facing b s p os) (divided shares b s p os q) ++ rows, os', next_level p h best t)
-
-  take_within : (m q : ℕ) (os : List Order) → q + length os < m → Bounded os → q ≤ length (ladder b s os) → (rows : List Row) × (os' : List Order) × Taken shares f n b s q os rows os'
-  take_within zero q os lt bounded enough = absurd (omega arith)
-  take_within (suc m) zero os lt bounded enough = ([], os, taken_all)
-  take_within (suc m) (suc q) os lt bounded enough =
-      let best = can_take b s (suc q) os (omega arith) enough in
-      let p : Price = best.0 in
-      let shrinks = fill_shrinks p os (suc q) (omega arith) bounded best.1 in
-      let more = take_within m (suc q - given b s p os (suc q)) (filled_book shares b s p os (suc q)) (omega arith)
-      (bounded_after_fill (in_level b (opposite s) p) os (divided shares b s p os (suc q)) bounded)
-      (can_go_on shares laws b s p os (suc q) bounded best.1 enough) in
-      take_next p (suc q) os more.1 more.0 (omega arith) best.1 more.2
-
-  -- what a ladder has can be taken
-  pub take_exists : (q : ℕ) (os : List Order) → Bounded os → q ≤ length (ladder b s os) → (rows : List Row) × (os' : List Order) × Taken shares f n b s q os rows os'
-  take_exists q os bounded enough = take_within (q + length os + 1) q os (omega arith) bounded enough

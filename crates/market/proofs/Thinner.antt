@@ -19,7 +19,8 @@ use Rattle.market.specs.Ladders.{leg_side, contracts_for, signed, ladder, ladder
 use Rattle.market.specs.Orders.{stands, lot_book}
 use Rattle.market.specs.Prices.{opposite, good, as_price}
 use Rattle.market.specs.Round.{legs_of, eligible}
-use Rattle.market.proofs.LadderLaw.{good_refl, good_trans, ladder_in_order, counts_first, passing, sum_filter, count_ladder}
+use Rattle.market.proofs.LadderLaw.{ladder_in_order, counts_first, passing, sum_filter, count_ladder}
+use Rattle.market.proofs.Places.{good_refl, good_trans}
 
 -- ---- a thinner book
 

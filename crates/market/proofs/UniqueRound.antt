@@ -7,14 +7,10 @@ use Rattle.market.specs.declared.order.Order.{Order}
 use Rattle.market.specs.declared.row.Row.{Row}
 use Rattle.market.specs.Orders.{quantity_of}
 use Rattle.market.specs.Round.{eligible, left_of, precedes, FirstEligible, Round, Round.over, Round.takes}
+use Rattle.market.proofs.Lists.{all_middle}
 use Rattle.market.proofs.UniqueFills.{implied_unique}
 
 -- ---- the first of those that pass a test
-
--- what holds of each element holds of the one in the middle
-in_middle : (P : Order → Type 0) (xs : List Order) (o : Order) (ys : List Order) → All P (xs ++ (o ∷ ys)) → P o
-in_middle P [] o ys a = All-head P o ys a
-in_middle P (x ∷ xs) o ys a = in_middle P xs o ys (All-tail P x (xs ++ (o ∷ ys)) a)
 
 -- two ways to part a list at an element are the same
 pub record SamePart (xs xs' : List Order) (o o' : Order) (ys ys' : List Order) : Type 0 where
@@ -37,7 +33,7 @@ module _ (test : Order → Bool) (goes_before : Order → Order → Bool) where
   one_first o ys x xs o' ys' e h h' after before =
       let same : o ≡ x = cc in
       let rest : xs ++ (o' ∷ ys') ≡ ys = cc in
-      let not_before = in_middle (λ y. test y ≡ true → goes_before y o ≡ false) xs o' ys' (All-same (λ y. test y ≡ true → goes_before y o ≡ false) _ _ rest after) h' in
+      let not_before = all_middle (λ y. test y ≡ true → goes_before y o ≡ false) xs o' ys' (All-same (λ y. test y ≡ true → goes_before y o ≡ false) _ _ rest after) h' in
       let goes = All-head (λ y. test y ≡ true → goes_before o' y ≡ true) x xs before (cc (same, h)) in
       cc (same, not_before, goes)
 
@@ -70,7 +66,7 @@ module _ (shares : List ℕ → ℕ → List ℕ) (cs : List (List Leg)) where
 
   none_first : {os ahead : List Order} {o : Order} {behind : List Order} → All (λ x. eligible cs os x ≡ false) os → FirstEligible cs os ahead o behind → ⊥
   none_first {os} {ahead} {o} {behind} none first =
-      let not = in_middle (λ x. eligible cs os x ≡ false) ahead o behind (All-same (λ x. eligible cs os x ≡ false) _ _ (sym first.stands) none) in
+      let not = all_middle (λ x. eligible cs os x ≡ false) ahead o behind (All-same (λ x. eligible cs os x ≡ false) _ _ (sym first.stands) none) in
       cc (not, first.within)
 
   pub round_unique : {f : ℕ} {os : List Order} {rows : List Row} {f' : ℕ} {os' : List Order} → Round shares cs f os rows f' os' →

@@ -26,33 +26,43 @@ abbrev pub entered : BookState → ℕ → ℕ → List Row → List Order → E
 entered m q left rows os = done (record { accepted = Entered m.next (q - left); rows = rows; after = record { orders = os; next = m.next + 1 } })
 
 module _ (shares : List ℕ → ℕ → List ℕ) (cs : List (List Leg)) where
-  -- the match of an order that arrives, from the first fill on
-  abbrev pub Matches : BookState → Arrival → List Row → ℕ → ℕ → List Order → Type 0
-  Matches m a rows f q os = Match shares (legs_of cs (lot_book a.lot)) (arriving a m.next) 1 (lot_size a.lot) m.orders rows f q os
+  -- the match of an order that arrives, from the fill g on
+  abbrev pub Matches : ℕ → BookState → Arrival → List Row → ℕ → ℕ → List Order → Type 0
+  Matches g m a rows f q os = Match shares (legs_of cs (lot_book a.lot)) (arriving a m.next) g (lot_size a.lot) m.orders rows f q os
 
-  -- Settles m a rows f q os: before the round, an order that arrives has come to these rows, the next fill f, q not traded, and the book os
-  pub data Settles (m : BookState) (a : Arrival) : List Row → ℕ → ℕ → List Order → Type 0 where
+  -- Settles g m a rows f q os: before the round, an order that arrives has, from the fill g on, come to these rows, the next fill f, q not traded, and the book os
+  pub data Settles (g : ℕ) (m : BookState) (a : Arrival) : List Row → ℕ → ℕ → List Order → Type 0 where
     -- it trades whole
-    whole : {rows : List Row} {f : ℕ} {os : List Order} → Matches m a rows f 0 os → Settles m a rows f 0 os
+    whole : {rows : List Row} {f : ℕ} {os : List Order} → Matches g m a rows f 0 os → Settles g m a rows f 0 os
     -- D: what is open rests, as the last in the book
-    rests : {rows : List Row} {f q : ℕ} {os : List Order} → a.duration ≡ Day → Matches m a rows f q os → 0 < q → length os < 256 →
-        Settles m a rows f q (os ++ sized (arriving a m.next) q ∷ [])
+    rests : {rows : List Row} {f q : ℕ} {os : List Order} → a.duration ≡ Day → Matches g m a rows f q os → 0 < q → length os < 256 →
+        Settles g m a rows f q (os ++ sized (arriving a m.next) q ∷ [])
     -- I: what is open is cancelled
-    cut : {rows : List Row} {f q : ℕ} {os : List Order} → a.duration ≡ Immediate → Matches m a rows f q os → 0 < q →
-        Settles m a (rows ++ cancel_row (sized (arriving a m.next) q) ∷ []) f q os
+    cut : {rows : List Row} {f q : ℕ} {os : List Order} → a.duration ≡ Immediate → Matches g m a rows f q os → 0 < q →
+        Settles g m a (rows ++ cancel_row (sized (arriving a m.next) q) ∷ []) f q os
     -- F: it would not trade whole, so it trades nothing and is cancelled whole
-    killed : {rows : List Row} {f q : ℕ} {os : List Order} → a.duration ≡ FillOrKill → Matches m a rows f q os → 0 < q →
-        Settles m a (cancel_row (arriving a m.next) ∷ []) 1 (lot_size a.lot) m.orders
+    killed : {rows : List Row} {f q : ℕ} {os : List Order} → a.duration ≡ FillOrKill → Matches g m a rows f q os → 0 < q →
+        Settles g m a (cancel_row (arriving a m.next) ∷ []) g (lot_size a.lot) m.orders
+
+  -- NoRoom g m a: a day order that arrives is to rest after its match, from the fill g on, and 256 do
+  pub record NoRoom (g : ℕ) (m : BookState) (a : Arrival) : Type 0 where
+    pub day : a.duration ≡ Day
+    pub rows : List Row
+    pub fill : ℕ
+    pub left : ℕ
+    pub orders : List Order
+    pub matches : Matches g m a rows fill left orders
+    pub some : 0 < left
+    pub full : 256 ≤ length orders
 
   -- an order arrives, trades what it can, and what is open then rests or is cancelled; the round ends the call
   pub data Enters (m : BookState) (a : Arrival) : Ending BookState → Type 0 where
     -- the number that it needs is over 99,999
     no_number : 99999 < m.next → Enters m a (refused NumbersSpent)
-    -- D: it is to rest after its match, and 256 do
-    no_room : {rows : List Row} {f q : ℕ} {os : List Order} → m.next ≤ 99999 → a.duration ≡ Day → Matches m a rows f q os → 0 < q → 256 ≤ length os →
-        Enters m a (refused BookFull)
+    -- no room is left for it
+    no_room : m.next ≤ 99999 → NoRoom 1 m a → Enters m a (refused BookFull)
     -- it settles, and then the round
-    settled : {rows rows' : List Row} {f q f' : ℕ} {os os' : List Order} → m.next ≤ 99999 → Settles m a rows f q os →
+    settled : {rows rows' : List Row} {f q f' : ℕ} {os os' : List Order} → m.next ≤ 99999 → Settles 1 m a rows f q os →
         Round shares cs f os rows' f' os' → Enters m a (entered m (lot_size a.lot) q (rows ++ rows') os')
 
 -- the participant's order of that number is taken out; all others stay as found

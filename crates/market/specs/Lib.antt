@@ -15,8 +15,15 @@ pub mod Matching
 pub mod Round
 pub mod Endings
 pub mod BookCalls
+pub mod Revisions
+pub mod Amending
+pub mod Quoting
 pub mod Venues
 pub mod Bands
+pub mod Turns
+pub mod Entries
+pub mod Parties
+pub mod FairTrades
 pub mod Sessions
 pub mod Figures
 pub mod Laws

@@ -1,11 +1,14 @@
 -- Orders, and the book that each rests in.
-use Rattle.std.specs.Prelude.{ℕ, ◌-◌, Bool, false, cond, not, ◌&&◌, ◌==◌, nat_lt}
+use Rattle.std.specs.Prelude.{ℕ, ◌-◌, Bool, true, false, cond, not, ◌&&◌, List, [], ◌∷◌, Some, None, Option, ◌==◌, nat_lt}
 use Rattle.market.specs.declared.arrival.Arrival.{Arrival}
 use Rattle.market.specs.declared.book_id.BookId.{BookId}
 use Rattle.market.specs.declared.book_id.BookId.TheVariants.{Instrument, Combination}
+use Rattle.market.specs.declared.call.Duration.TheVariants.{Day}
 use Rattle.market.specs.declared.order.Lot.{Lot}
 use Rattle.market.specs.declared.order.Lot.TheVariants.{Outright, Combined}
 use Rattle.market.specs.declared.order.Order.{Order}
+use Rattle.market.specs.declared.price.Price.{Price}
+use Rattle.market.specs.declared.quote.QuoteSide.{QuoteSide}
 use Rattle.market.specs.declared.side.Side.{Side}
 use Rattle.market.specs.Prices.{same_side}
 
@@ -64,6 +67,23 @@ stands b s o = same_book (lot_book o.lot) b && same_side o.side s
 abbrev pub own : ℕ → ℕ → Order → Bool
 own p n o = o.number == n && (o.participant == p && not o.quote)
 
+-- the first order that is the participant's own of that number
+abbrev pub own_order : ℕ → ℕ → List Order → Option Order
+own_order p n [] = None
+own_order p n (o ∷ os) = cond (own p n o) (Some o) (own_order p n os)
+
+-- the participant's quote in this book, on this side
+abbrev pub quotes : ℕ → BookId → Side → Order → Bool
+quotes p b s o = o.quote && (o.participant == p && stands b s o)
+
 -- an arriving order under the number that it is given
 abbrev pub arriving : Arrival → ℕ → Order
-arriving a n = record { number = n; participant = a.participant; side = a.side; price = a.price; lot = a.lot; quote = false }
+arriving a n = record { number = n; participant = a.participant; side = a.side; price = a.price; lot = a.lot; quote = a.quote }
+
+-- a side of a quote arrives as a day order that is marked as quote
+abbrev pub quote_side : ℕ → Side → QuoteSide → Arrival
+quote_side p s q = record { participant = p; side = s; lot = q.lot; price = q.price; duration = Day; quote = true }
+
+-- a resting order arrives anew as a day order, with this quantity and price
+abbrev pub anew : Order → ℕ → Price → Arrival
+anew o q r = record { participant = o.participant; side = o.side; lot = sized_lot o.lot q; price = r; duration = Day; quote = o.quote }

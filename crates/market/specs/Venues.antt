@@ -1,7 +1,7 @@
 -- A venue as a member meets it: what it refuses, and what each call does.
-use Rattle.std.specs.Prelude.{◌≡◌, ℕ, ◌+◌, ◌-◌, Bool, true, false, cond, ◌&&◌, ◌||◌, List, [], ◌∷◌, ◌++◌, length, pos, neg_ℤ, Some, None, Ok, Err, Option, Result, ◌==◌, int_le, nat_lt, nat_le}
+use Rattle.std.specs.Prelude.{◌≡◌, ℕ, ◌+◌, ◌-◌, Bool, true, false, cond, ◌&&◌, ◌||◌, List, [], ◌∷◌, ◌++◌, length, pos, neg_ℤ, Some, None, Ok, Err, Option, Result, ◌==◌, int_le, nat_lt, nat_le, int_lt}
 use Rattle.std.specs.List.{slice_get, list_any}
-use Rattle.std.specs.Option.{option_map}
+use Rattle.std.specs.Option.{is_some, option_map}
 use Rattle.arrayvec.specs.ArrayVec.{ArrayVec}
 use Rattle.market.specs.declared.acceptance.Acceptance.TheVariants.{Defined}
 use Rattle.market.specs.declared.call.Call.{Call}
@@ -14,17 +14,19 @@ use Rattle.market.specs.declared.phase.Event.TheVariants.{Open, Halt, Resume, Cl
 use Rattle.market.specs.declared.phase.Phase.{Phase}
 use Rattle.market.specs.declared.phase.Phase.TheVariants.{PreOpen, Continuous, Halted, Closed}
 use Rattle.market.specs.declared.phase.Withdrawal.{Withdrawal}
-use Rattle.market.specs.declared.phase.Withdrawal.TheVariants.{Nothing, Quotes, Everything}
+use Rattle.market.specs.declared.phase.Withdrawal.TheVariants as withdrawal
 use Rattle.market.specs.declared.price.Price.{Price}
 use Rattle.market.specs.declared.product.Band.{Band}
 use Rattle.market.specs.declared.product.Product.{Product}
 use Rattle.market.specs.declared.refusal.Refusal.{Refusal}
 use Rattle.market.specs.declared.refusal.Refusal.TheVariants as refusal
 use Rattle.market.specs.declared.side.Side.{Side}
+use Rattle.market.specs.Amending.{Amends}
 use Rattle.market.specs.BookCalls.{BookState, Enters, Cancels, withdrawn}
 use Rattle.market.specs.Combinations.{normal, turns, broken_leg, exists, same_legs, NoneMade, FirstMade}
 use Rattle.market.specs.Endings.{Ending, refused, done}
-use Rattle.market.specs.Orders.{own, is_instrument, lot_of}
+use Rattle.market.specs.Orders.{lot_book, book_number, own_order, is_instrument, lot_of}
+use Rattle.market.specs.Quoting.{Quotes}
 use Rattle.market.specs.Tables.{unless, topmost, first_broken}
 
 -- what a venue is: its product, its phase, a price band for each instrument, the legs of each combination in the order in which they were made, and its book
@@ -45,7 +47,7 @@ fresh product bands = record { product = product; phase = PreOpen; bands = bands
 abbrev pub between : ℕ → ℕ → ℕ → Bool
 between low high n = nat_le low n && nat_le n high
 
--- enter and define run in Continuous only
+-- enter, amend, quote and define run in Continuous only
 abbrev pub trading : Phase → Bool
 trading PreOpen = false
 trading Continuous = true
@@ -85,11 +87,6 @@ within_net_band p = int_le (neg_ℤ (pos 99999900)) p.0 && int_le p.0 (pos 99999
 abbrev pub price_fits : View → ℕ → Price → Bool
 price_fits v i p = cond (is_instrument i) (within_band (band_of v.bands i) p) (within_net_band p)
 
--- some resting order is the participant's own of that number, quotes apart
-abbrev pub owned : ℕ → ℕ → List Order → Bool
-owned p n [] = false
-owned p n (o ∷ os) = cond (own p n o) true (owned p n os)
-
 -- the phase that an event turns a phase into; any other pair is refused
 abbrev pub next_phase : Phase → Event → Option Phase
 next_phase PreOpen Open = Some Continuous
@@ -114,9 +111,21 @@ abbrev pub switch_fault : Option Phase → Option Refusal
 switch_fault None = Some refusal.Phase
 switch_fault (Some phase) = None
 
--- calls that are read and not offered yet
-abbrev pub not_offered : Option Refusal
-not_offered = Some refusal.NotOffered
+-- the refusal of an amend, once the participant is known: the price must fit the book of the order that is amended
+abbrev pub amend_fault : View → Option Order → ℕ → Price → Option Refusal
+amend_fault v None q r = Some refusal.Order
+amend_fault v (Some o) q r = topmost (
+    unless (between 1 10000 q) (refusal.Quantity 3)
+    ∷ unless (price_fits v (book_number (lot_book o.lot)) r) (refusal.Price 4)
+    ∷ [])
+
+-- a side of a quote fits: its price does, or nothing is wanted
+abbrev pub side_fits : View → ℕ → ℕ → Price → Bool
+side_fits v i q r = q == 0 || price_fits v i r
+
+-- the bid is below the offer, or one of them is not there
+abbrev pub bid_below_offer : ℕ → Price → ℕ → Price → Bool
+bid_below_offer q r k w = (q == 0 || k == 0) || int_lt r.0 w.0
 
 -- the refusal of a request for a combination, whichever exist
 abbrev pub request_fault : View → ℕ → List Leg → Option Refusal
@@ -139,11 +148,24 @@ fault v (Enter p i s q r d) = topmost (
 fault v (Cancel p n) = topmost (
     unless (serving v.phase) refusal.Phase
     ∷ unless (between 1 999 p) refusal.Participant
-    ∷ unless (owned p n v.book.orders) refusal.Order
+    ∷ unless (is_some (own_order p n v.book.orders)) refusal.Order
     ∷ [])
 fault v (Switch w) = switch_fault (next_phase v.phase w)
-fault v (Amend p n q r) = not_offered
-fault v (Quote p i q r k t) = not_offered
+fault v (Amend p n q r) = topmost (
+    unless (trading v.phase) refusal.Phase
+    ∷ unless (between 1 999 p) refusal.Participant
+    ∷ amend_fault v (own_order p n v.book.orders) q r
+    ∷ [])
+fault v (Quote p i q r k w) = topmost (
+    unless (trading v.phase) refusal.Phase
+    ∷ unless (between 1 999 p) refusal.Participant
+    ∷ unless (tradable v i) (refusal.Unknown 2)
+    ∷ unless (between 0 10000 q) (refusal.Quantity 3)
+    ∷ unless (between 0 10000 k) (refusal.Quantity 5)
+    ∷ unless (side_fits v i q r) (refusal.Price 4)
+    ∷ unless (side_fits v i k w) (refusal.Price 6)
+    ∷ unless (bid_below_offer q r k w) refusal.Crossed
+    ∷ [])
 fault v (Define p legs) = topmost (
     request_fault v p legs.items
     ∷ unless (nat_lt (length v.combinations) 32 || list_any (same_legs (normal legs.items)) v.combinations) refusal.CombinationsSpent
@@ -153,10 +175,10 @@ fault v (Define p legs) = topmost (
 
 -- a halt withdraws all quotes, a close cancels all
 abbrev pub withdraws : Event → Withdrawal
-withdraws Open = Nothing
-withdraws Halt = Quotes
-withdraws Resume = Nothing
-withdraws Close = Everything
+withdraws Open = withdrawal.Nothing
+withdraws Halt = withdrawal.Quotes
+withdraws Resume = withdrawal.Nothing
+withdraws Close = withdrawal.Everything
 
 -- the venue in another phase
 abbrev pub in_phase : View → Phase → View
@@ -182,8 +204,15 @@ module _ (shares : List ℕ → ℕ → List ℕ) where
     at_fault : (c : Call) (e : Refusal) → fault v c ≡ Some e → Does v c (refused e)
     -- an order arrives in the book
     enters : (p i : ℕ) (s : Side) (q : ℕ) (r : Price) (d : Duration) (e : Ending BookState) → fault v (Enter p i s q r d) ≡ None →
-        Enters shares v.combinations v.book (record { participant = p; side = s; lot = lot_of i q; price = r; duration = d }) e →
+        Enters shares v.combinations v.book (record { participant = p; side = s; lot = lot_of i q; price = r; duration = d; quote = false }) e →
         Does v (Enter p i s q r d) (at_book v e)
+    -- a resting order gets a new quantity and price
+    amends : (p n q : ℕ) (r : Price) (e : Ending BookState) → fault v (Amend p n q r) ≡ None → Amends shares v.combinations v.book p n q r e →
+        Does v (Amend p n q r) (at_book v e)
+    -- a participant bids and offers
+    quotes : (p i q : ℕ) (r : Price) (k : ℕ) (w : Price) (e : Ending BookState) → fault v (Quote p i q r k w) ≡ None →
+        Quotes shares v.combinations v.book (record { participant = p; bid = record { lot = lot_of i q; price = r }; offer = record { lot = lot_of i k; price = w } }) e →
+        Does v (Quote p i q r k w) (at_book v e)
     -- a resting order is taken out
     cancels : (p n : ℕ) (e : Ending BookState) → fault v (Cancel p n) ≡ None → Cancels v.book p n e → Does v (Cancel p n) (at_book v e)
     -- a combination with these legs exists: nothing is made

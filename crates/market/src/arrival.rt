@@ -11,4 +11,6 @@ pub struct Arrival {
     pub lot: Lot,
     pub price: Price,
     pub duration: Duration,
+    // marked as a side of a quote
+    pub quote: bool,
 }

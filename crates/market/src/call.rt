@@ -14,7 +14,7 @@ pub enum Duration {
     FillOrKill,
 }
 
-// One call, as read from a line: all numbers as they stand there, a book by its number alone; the gate makes an Arrival or an OrderId of them, and then judges it.
+// One call, as read from a line: all numbers as they stand there, a book by its number alone; the gate judges them, and makes an Arrival, a Quote or an OrderId of them for the book.
 #[derive(Clone, Drop)]
 pub enum Call {
     Enter {

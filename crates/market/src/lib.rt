@@ -15,6 +15,7 @@ pub mod order_id;
 pub mod phase;
 pub mod price;
 pub mod product;
+pub mod quote;
 pub mod refusal;
 pub mod row;
 pub mod side;

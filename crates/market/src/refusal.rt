@@ -29,7 +29,6 @@ impl From<Layer> for u32 {
 // A number with a case is the place of the byte or field at fault; the other cases have one place each.
 #[derive(Clone, Copy, PartialEq, Eq, Debug)]
 pub enum Refusal {
-    NotOffered,
     Byte(u32),
     Field(u32),
     Band(u32),
@@ -39,6 +38,7 @@ pub enum Refusal {
     Order,
     Quantity(u32),
     Price(u32),
+    Crossed,
     Legs(u32),
     CombinationsSpent,
     NumbersSpent,
@@ -59,7 +59,6 @@ impl From<Refusal> for RefusalCode {
 
     fn from(refusal: Refusal) -> RefusalCode {
         let (number, layer, place) = match refusal {
-            Refusal::NotOffered => (0, Layer::Gate, 0),
             Refusal::Byte(place) => (1, Layer::Line, place),
             Refusal::Field(place) => (2, Layer::Line, place),
             Refusal::Band(place) => (3, Layer::Gate, place),
@@ -69,6 +68,7 @@ impl From<Refusal> for RefusalCode {
             Refusal::Order => (7, Layer::Gate, 2),
             Refusal::Quantity(place) => (8, Layer::Gate, place),
             Refusal::Price(place) => (9, Layer::Gate, place),
+            Refusal::Crossed => (10, Layer::Gate, 6),
             Refusal::Legs(place) => (11, Layer::Gate, place),
             Refusal::CombinationsSpent => (12, Layer::Gate, 0),
             Refusal::NumbersSpent => (13, Layer::Book, 0),

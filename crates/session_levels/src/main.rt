@@ -1,4 +1,4 @@
-// A stored session: fills through several levels, D, I and F, cancels, phases, every refusal of the gate but number 3, a full book.
+// A stored session: fills through several levels, D, I and F, cancels, phases, refusals 4 to 11, a full book.
 // The same program as `venue`, in a crate of its own: a crate's program is run once, on the crate's own stdin and stdout.
 #![tactic(auto)]
 

@@ -1,9 +1,8 @@
 // What may be done with a book.
-ghost use Rattle.std.specs.Prelude.{◌≡◌, ◌+◌, ◌≤◌, true, [], length, IfOk};
+ghost use Rattle.std.specs.Prelude.{◌≡◌, ◌+◌, ◌≤◌, true, [], is_some, length, IfOk};
 ghost use Rattle.market.specs.BookCalls.{Enters, Cancels, withdrawn};
 ghost use Rattle.market.specs.Endings.{Follows};
-ghost use Rattle.market.specs.Orders.{lot_size};
-ghost use Rattle.market.specs.Venues.{owned};
+ghost use Rattle.market.specs.Orders.{lot_size, own_order};
 ghost use Rattle.book.specs.Closing.{book_state, Closes};
 ghost use Rattle.book.specs.Held.{held};
 ghost use Rattle.book.specs.Table.{table};
@@ -19,6 +18,7 @@ use crate::told::Told;
 use market::acceptance::Acceptance;
 use market::arrival::Arrival;
 use market::combination::Combination;
+use market::order::Order;
 use market::order_id::OrderId;
 use market::phase::Withdrawal;
 use market::refusal::{Refusal, refuse};
@@ -28,7 +28,7 @@ use std::alloc::{AllocError, Global};
 use std::mem;
 
 // The last number that an order can have.
-const LAST_NUMBER: u32 = 99_999;
+pub(super) const LAST_NUMBER: u32 = 99_999;
 
 impl Book {
     // A book with no order.
@@ -43,7 +43,7 @@ impl Book {
     }
 
     // Lets the draft stand, if all rows of the call fit its report.
-    fn close(
+    pub(super) fn close(
         &mut self,
         acceptance: Acceptance,
         next: u32,
@@ -60,11 +60,12 @@ impl Book {
         Ok(acceptance.into())
     }
 
-    // Whether an order that rests is the participant's own of that number, quotes apart.
-    pub fn owns(&self, id: OrderId) -> bool
-        ensures { result ≡ owned id.participant id.number (book_state self.now).orders }
+    // The participant's own resting order of that number, quotes apart.
+    pub fn own_order(&self, id: OrderId) -> Option<Order>
+        ensures { result ≡ own_order id.participant id.number (book_state self.now).orders }
     {
-        self.resting.find_own(id).is_some()
+        let i = self.resting.find_own(id)?;
+        Some(self.resting.as_slice()[i])
     }
 
     // An order arrives: it trades what it can, what is left rests or is cancelled, and the round ends the call.
@@ -88,7 +89,7 @@ impl Book {
         let legs = legs_of(combinations, lot_book(arrival.lot));
         let at = self
             .draft
-            .match_order(rule, &entering.order, legs, &mut told);
+            .match_order(rule, &entering.order, legs, 1, &mut told);
         let at = self.draft.settle(&self.resting, entering, at, &mut told)?;
         self.draft
             .round(rule, combinations, at.next_fill, &mut told);
@@ -102,11 +103,11 @@ impl Book {
 
     // The participant's order of that number is taken out.
     pub fn cancel(&mut self, id: OrderId, report: &mut [Row]) -> Result<(u32, u32), Refusal>
-        requires { owned id.participant id.number (book_state self.old).orders ≡ true }
+        requires { is_some (own_order id.participant id.number (book_state self.old).orders) ≡ true }
         ensures { Follows (Cancels (book_state self.old) id.participant id.number) (book_state self.old) (length report.old) result report.new (book_state self.new) }
     {
         let mut told = Told::start(report);
-        // Asked for before, by `owns`: whether it is there is a condition of the gate, which is tried among its others.
+        // Asked for before, by `own_order`: whether it is there is a condition of the gate, which is tried among its others.
         let i = self.resting.find_own(id).unwrap();
         self.draft.orders.copy_from(&self.resting);
         let order = self.draft.orders.remove(i);

@@ -1,6 +1,6 @@
 // What may be done with a venue.
 ghost use Rattle.std.specs.Prelude.{◌≡◌, ◌≤◌, length};
-ghost use Rattle.market.specs.declared.call.Call.TheVariants.{Enter, Cancel, Define, Switch};
+ghost use Rattle.market.specs.declared.call.Call.TheVariants.{Cancel, Define, Switch};
 ghost use Rattle.market.specs.Bands.{BandsJudged};
 ghost use Rattle.market.specs.Endings.{Follows};
 ghost use Rattle.market.specs.Venues.{Does, fault, tradable, price_fits};
@@ -16,6 +16,7 @@ use crate::fault::{check_participant, judge, unless, within_band, within_net_ban
 use crate::legs::combine;
 use crate::listing::Listing;
 use crate::ratios::turns;
+use crate::sides::Sides;
 use crate::trading::Trading;
 use arrayvec::ArrayVec;
 use book::book::Book;
@@ -32,17 +33,6 @@ use market::row::Row;
 use rules::rule::AllocationRule;
 use std::alloc::Global;
 
-// The most contracts or units that an order may be for.
-const MOST_ENTERED: u32 = 10_000;
-
-// The fields of an enter line with the instrument or combination, the quantity and the price.
-const BOOK_PLACE: u32 = 2;
-
-const QUANTITY_PLACE: u32 = 4;
-
-const PRICE_PLACE: u32 = 5;
-
-// A refusal also blanks the report, so that `?` alone would not do where a call is refused here.
 impl<R: AllocationRule> Venue<R> {
     // A venue in Pre Open with no order, or a refusal where a band is broken; memory is taken only once the bands are judged sound.
     pub fn build(
@@ -75,7 +65,7 @@ impl<R: AllocationRule> Venue<R> {
     }
 
     // There is such an instrument or combination.
-    fn knows(&self, book: u32) -> bool
+    pub(super) fn knows(&self, book: u32) -> bool
         ensures { result ≡ tradable (view self.now) book }
     {
         if book < FIRST_COMBINATION {
@@ -86,7 +76,7 @@ impl<R: AllocationRule> Venue<R> {
     }
 
     // The price lies in the instrument's band, or a net price in that of net prices.
-    fn price_fits(&self, book: u32, price: Price) -> bool
+    pub(super) fn price_fits(&self, book: u32, price: Price) -> bool
         ensures { result ≡ price_fits (view self.now) book price }
     {
         if book < FIRST_COMBINATION {
@@ -97,49 +87,28 @@ impl<R: AllocationRule> Venue<R> {
         }
     }
 
-    // Whether an order may enter, and if not, why.
-    fn may_enter(&self, entry: Entry) -> Result<(), Refusal>
-        ensures { Judges (fault (view self.now) (Enter entry.participant entry.book entry.side entry.quantity entry.price entry.duration)) result }
-    {
-        unless(self.listing.trading.open(), Refusal::Phase)?;
-        check_participant(entry.participant)?;
-        unless(self.knows(entry.book), Refusal::Unknown(BOOK_PLACE))?;
-        unless(
-            (1..=MOST_ENTERED).contains(&entry.quantity),
-            Refusal::Quantity(QUANTITY_PLACE),
-        )?;
-        unless(
-            self.price_fits(entry.book, entry.price),
-            Refusal::Price(PRICE_PLACE),
-        )
-    }
-
-    fn enter(&mut self, entry: Entry, report: &mut [Row]) -> Result<(u32, u32), Refusal>
-        ensures follows { Follows (Does (R.AllocationRule.shares (rule_of self.old)) (view self.old) (Enter entry.participant entry.book entry.side entry.quantity entry.price entry.duration)) (view self.old) (length report.old) result report.new (view self.new) }
-        ensures rule { rule_of self.new ≡ rule_of self.old }
-    {
-        if let Err(refusal) = self.may_enter(entry) {
-            return refuse(report, refusal);
-        }
-        let listing = &self.listing;
-        let combinations = listing.combinations.as_slice();
-        self.book
-            .enter(&self.rule, entry.arrival(), combinations, report)
-    }
-
     // Whether an order may be cancelled, and if not, why.
     fn may_cancel(&self, id: OrderId) -> Result<(), Refusal>
         ensures { Judges (fault (view self.now) (Cancel id.participant id.number)) result }
     {
         unless(self.listing.trading.serving(), Refusal::Phase)?;
         check_participant(id.participant)?;
-        unless(self.book.owns(id), Refusal::Order)
+        unless(self.book.own_order(id).is_some(), Refusal::Order)
     }
 
-    fn cancel(&mut self, id: OrderId, report: &mut [Row]) -> Result<(u32, u32), Refusal>
-        ensures follows { Follows (Does (R.AllocationRule.shares (rule_of self.old)) (view self.old) (Cancel id.participant id.number)) (view self.old) (length report.old) result report.new (view self.new) }
+    fn cancel(
+        &mut self,
+        participant: u32,
+        number: u32,
+        report: &mut [Row],
+    ) -> Result<(u32, u32), Refusal>
+        ensures follows { Follows (Does (R.AllocationRule.shares (rule_of self.old)) (view self.old) (Cancel participant number)) (view self.old) (length report.old) result report.new (view self.new) }
         ensures rule { rule_of self.new ≡ rule_of self.old }
     {
+        let id = OrderId {
+            participant,
+            number,
+        };
         if let Err(refusal) = self.may_cancel(id) {
             return refuse(report, refusal);
         }
@@ -211,29 +180,32 @@ impl<R: AllocationRule> Venue<R> {
                 price,
                 duration,
             } => {
-                let entry = Entry {
-                    participant,
-                    book,
-                    side,
-                    quantity,
-                    price,
-                    duration,
-                };
+                let entry = Entry::new(participant, book, side, quantity, price, duration);
                 self.enter(entry, report)
             }
+            Call::Amend {
+                participant,
+                number,
+                quantity,
+                price,
+            } => self.amend(participant, number, quantity, price, report),
             Call::Cancel {
                 participant,
                 number,
+            } => self.cancel(participant, number, report),
+            Call::Quote {
+                participant,
+                book,
+                bid_quantity,
+                bid,
+                offer_quantity,
+                offer,
             } => {
-                let id = OrderId {
-                    participant,
-                    number,
-                };
-                self.cancel(id, report)
+                let sides = Sides::new(participant, book, bid_quantity, bid, offer_quantity, offer);
+                self.quote(sides, report)
             }
             Call::Define { participant, legs } => self.define(participant, &legs, report),
             Call::Switch { event } => self.switch(event, report),
-            Call::Amend { .. } | Call::Quote { .. } => refuse(report, Refusal::NotOffered),
         }
     }
 }

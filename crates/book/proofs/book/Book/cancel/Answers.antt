@@ -6,11 +6,11 @@ use Rattle.market.specs.declared.order.Order.{Order}
 use Rattle.market.specs.BookCalls.{Cancels}
 use Rattle.book.specs.Closing.{book_state}
 use Rattle.book.proofs.Closing.{follows_closed, cancel_ready}
-use Rattle.book.proofs.Finding.{owned_is_found}
+use Rattle.book.proofs.Finding.{own_is_found}
 use Rattle.book.proofs.book.Book.cancel.Goals as goal
 
 pub unwrap-i-requires : goal.unwrap-i-requires
-unwrap-i-requires c = ap is_some c.find_own.ensures ∙ sym (owned_is_found c.args.id.participant c.args.id.number (vec_items c.args.self.now.resting.inner.orders)) ∙ c.requires
+unwrap-i-requires c = ap is_some c.find_own.ensures ∙ sym (own_is_found c.args.id.participant c.args.id.number (vec_items c.args.self.now.resting.inner.orders)) ∙ c.requires
 
 pub returns : goal.returns
 returns c =

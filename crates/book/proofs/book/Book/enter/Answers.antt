@@ -19,7 +19,7 @@ pub returns-then-number-gt-LAST_NUMBER : goal.returns-then-number-gt-LAST_NUMBER
 returns-then-number-gt-LAST_NUMBER g c =
     let m = book_state c.args.self.now in
     let cs : List (List Leg) = table c.args.combinations.now in
-    follows_refused (Enters (g.R.AllocationRule.shares c.args.rule.now) cs m c.args.arrival) m (length c.args.report.now) _ _ c.start-told.result _ refl (no_number c.if-number-gt-LAST_NUMBER.true) (search rules) c.start-told.ensures.blank
+    follows_refused (Enters (g.R.AllocationRule.shares c.args.rule.now) cs m c.args.arrival) m (length c.args.report.now) _ _ c.start-told.result.rows.now _ refl (no_number c.if-number-gt-LAST_NUMBER.true) (search rules) c.start-told.ensures.blank
 
 pub returns-in_err-at : goal.returns-in_err-at
 returns-in_err-at g c =
@@ -41,7 +41,7 @@ returns-in_err-at g c =
     let done : Settled shares cs m a (Err e) os' t.new.told =
     settled_by shares cs a m.next m.orders (lent c.legs_of-legs.result) c.new-entering.result.order os₀ s.result o.result os o.new.told (Err e) os' t.new.told
     legs c.new-entering.ensures.order c.copy_from.ensures few o.ensures.run s.ensures.holds (c.in_err-at.ensures.settles a m.next c.new-entering.ensures.order c.new-entering.ensures.duration) in
-    follows_refused (Enters shares cs m a) m (length c.args.report.now) e c.from_residual.result t.new.told _ (p.1 ∙ ap Err p.2) done.0 (search rules)
+    follows_refused (Enters shares cs m a) m (length c.args.report.now) e c.from_residual.result t.new.told.rows.now _ (p.1 ∙ ap Err p.2) done.0 (search rules)
     (done.1 ∙ ap blank (settles.report.long ∙ o.ensures.run.more.report.long ∙ blank_long s.result.rows.now (length c.args.report.now) s.ensures.blank))
 
 pub returns : goal.returns

@@ -1,0 +1,2 @@
+pub mod NewestFirst
+pub mod Composed
