@@ -24,7 +24,8 @@ impl Scratch {
     // Divides so much over the quantities, by the rule, which writes over as many shares.
     pub(crate) fn divide<R: AllocationRule>(&mut self, rule: &R, give: u32)
         requires { Domain self.old.quantities.items give }
-        ensures { self.new.shares.items ≡ R.AllocationRule.shares rule.now self.old.quantities.items give }
+        ensures quantities { self.new.quantities.items ≡ self.old.quantities.items }
+        ensures shares { self.new.shares.items ≡ R.AllocationRule.shares rule.now self.old.quantities.items give }
     {
         // Into a vector in place, whose room is its type; no `clone`: it can fail just as this can, and moves all 256 places.
         self.shares.clear();

@@ -1,4 +1,4 @@
-// Cases that no stored session can show: short reports, many build lines, many definitions, a call cloned, and sessions served from memory.
+// Cases that no stored session can show: short reports, many build lines, many definitions, a call copied, and sessions served from memory.
 #![tactic(auto)]
 
 #[cfg(test)]

@@ -1,3 +1,4 @@
+pub mod Appends
 pub mod Newlines
 pub mod Feeds
 pub mod Standing

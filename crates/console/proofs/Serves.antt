@@ -158,7 +158,7 @@ module _ {W : Type 0} (log : W → List Event → Type 0) (s : Session W) (unrea
   module _ (over : W → Type 0) {E : Type 0} {found : Result (Option (Bor (List ℕ))) E} {o : Option (Bor (List ℕ))} (was : found ≡ Ok o) (r : LineReader) (w : BufferedWire W) (finds : IfOk found (λ line. Finds log over s.reader s.wire line r w)) where
     -- what is found first
     first_found : (line : Option (Bor (List ℕ))) → o ≡ line → Next line rule_for log over r w [] []
-    first_found line is = found_as (λ x. Finds log over s.reader s.wire x r w) was is finds rule_for [] [] nothing_yet stands_first
+    first_found line is = (found_as (λ x. Finds log over s.reader s.wire x r w) was is finds).1 rule_for [] [] nothing_yet stands_first
 
     -- no line is found
     pub none_first : o ≡ None → Served rule_for (log w.wire.now) (over w.wire.now)

@@ -67,7 +67,7 @@ module _ (shares : List ℕ → ℕ → List ℕ) where
 
     -- what was found next
     pub found_next : {s : Session W} (over : W → Type 0) {E : Type 0} {o : Result (Option (Bor (List ℕ))) E} {l line : Option (Bor (List ℕ))} (r : LineReader) (w : BufferedWire W) (u : View) (a : AnsweredOn rules shares v log s used text u) → RepliesOn rules shares v used text → o ≡ Ok l → l ≡ line → IfOk o (λ x. Finds log over s.reader s.wire x r w) → Next line rules log over r w a.used' (text ++ a.more)
-    found_next {s} over r w u a on was is found = found_as (λ x. Finds log over s.reader s.wire x r w) was is found rules a.used' (text ++ a.more) (replied u a on) a.stands
+    found_next {s} over r w u a on was is found = (found_as (λ x. Finds log over s.reader s.wire x r w) was is found).1 rules a.used' (text ++ a.more) (replied u a on) a.stands
 
     pub end_answers : {over : W → Type 0} {s s' : Session W} (w : View) (a : AnsweredOn rules shares v log s used text w) → Next None rules log over s'.reader s'.wire a.used' (text ++ a.more) → AllAnswered rules shares v log over s' used text
     end_answers w a n =

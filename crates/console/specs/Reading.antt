@@ -1,5 +1,5 @@
 -- What a reader has read and not cut yet, and how far a session stands.
-use Rattle.std.specs.Prelude.{◌≡◌, ℕ, ◌-◌, List, [], ◌∷◌, ◌++◌, take, drop, Some, None, Option, vec_items}
+use Rattle.std.specs.Prelude.{◌≡◌, ℕ, ◌-◌, true, List, [], ◌∷◌, ◌++◌, take, drop, Some, None, Option, is_some, vec_items}
 use denote.Ref.{Bor}
 use Rattle.console.specs.declared.buffered.BufferedWire.{BufferedWire}
 use Rattle.console.specs.declared.reader.LineReader.{LineReader}
@@ -55,6 +55,10 @@ abbrev pub Next : {W : Type 0} → Option (Bor (List ℕ)) → (Product → List
 Next (Some line) rules log over r w used text = OneMore rules log r w used text × (line.now ≡ kept r.cutter)
 Next None rules log over r w used text = Still rules log r w used text × AtEnd over r w
 
--- a step from one reader and wire to the next finds the next line, where the text is the reply to all lines closed so far
+-- a line that is lent is whole: its newline is cut
+abbrev pub Whole : Option (Bor (List ℕ)) → LineReader → Type 0
+Whole line r = is_some line ≡ true → r.cutter.complete ≡ true
+
+-- a step from one reader and wire to the next lends only a whole line, and finds the next one, where the text is the reply to all lines closed so far
 abbrev pub Finds : {W : Type 0} → (W → List Event → Type 0) → (W → Type 0) → LineReader → BufferedWire W → Option (Bor (List ℕ)) → LineReader → BufferedWire W → Type 0
-Finds log over r w line r' w' = (rules : Product → List ℕ → ℕ → List ℕ) (used text : List ℕ) → Ready rules (closed_lines used) text → Stands rules log r w used text → Next line rules log over r' w' used text
+Finds log over r w line r' w' = Whole line r' × ((rules : Product → List ℕ → ℕ → List ℕ) (used text : List ℕ) → Ready rules (closed_lines used) text → Stands rules log r w used text → Next line rules log over r' w' used text)

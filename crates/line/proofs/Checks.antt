@@ -19,6 +19,7 @@ use Rattle.market.specs.Amending.{Amends, Amends.in_place, Amends.no_number, Ame
 use Rattle.market.specs.BookCalls.{BookState, Enters, Enters.no_number, Enters.no_room, Enters.settled, Cancels, Cancels.taken_out}
 use Rattle.market.specs.Endings.{Ending, refused, done, Outcome, close, Follows}
 use Rattle.market.specs.Combinations.{normal, same_legs, broken_leg}
+use Rattle.market.specs.Legs.{listed}
 use Rattle.market.specs.Orders.{lot_book, book_number, own_order}
 use Rattle.market.specs.Quoting.{Quotes, Quotes.no_number, Quotes.no_room_bid, Quotes.no_room_offer, Quotes.placed}
 use Rattle.market.specs.Tables.{unless, topmost, first_broken}
@@ -104,7 +105,7 @@ fault_elsewhere v (Switch w) = switch_elsewhere (next_phase v.phase w)
 fault_elsewhere v (Amend p n q r) = amend_elsewhere v (trading v.phase) (between 1 999 p) (own_order p n v.book.orders) q r
 fault_elsewhere v (Quote p i q r k w) =
     quote_elsewhere (trading v.phase) (between 1 999 p) (tradable v i) (between 0 10000 q) (between 0 10000 k) (side_fits v i q r) (side_fits v i k w) (bid_below_offer q r k w)
-fault_elsewhere v (Define p legs) = define_elsewhere (trading v.phase) (between 1 999 p) (ltb (length v.combinations) 32 || list_any (same_legs (normal legs.items)) v.combinations) (first_broken (λ l. known (band_of v.bands l.instrument)) legs.items 3) (broken_leg v.product legs.items)
+fault_elsewhere v (Define p legs) = define_elsewhere (trading v.phase) (between 1 999 p) (ltb (length v.combinations) 32 || list_any (same_legs (normal (listed legs))) v.combinations) (first_broken (λ l. known (band_of v.bands l.instrument)) (listed legs) 3) (broken_leg v.product (listed legs))
 
 -- ---- what the book refuses
 

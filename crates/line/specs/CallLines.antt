@@ -10,6 +10,7 @@ use Rattle.market.specs.declared.phase.Event.TheVariants.{Open, Halt, Resume, Cl
 use Rattle.market.specs.declared.price.Price.{Price}
 use Rattle.market.specs.declared.side.Side.{Side}
 use Rattle.market.specs.declared.side.Side.TheVariants.{Buy, Sell}
+use Rattle.market.specs.Legs.{legs_named}
 use Rattle.line.specs.Bytes.{letter, first, others}
 use Rattle.line.specs.Numbers.{decimal, signed, code}
 use Rattle.line.specs.Kinds.{letter_among, plain_number, signed_number, number_within, Form, says, field_at}
@@ -91,7 +92,7 @@ quote_form fs =
 abbrev pub define_form : List (List ℕ) → Form Call
 define_form fs =
     says (plain_number ∷ number_within 2 10 ∷ two_runs (decimal (field_at 1 fs)) plain_number signed_number)
-    (Define (decimal (field_at 0 fs)) (record { items = legs_of (decimal (field_at 1 fs)) (others (others fs)) }))
+    (Define (decimal (field_at 0 fs)) (legs_named (legs_of (decimal (field_at 1 fs)) (others (others fs)))))
 
 -- P: event
 abbrev pub switch_form : List (List ℕ) → Form Call

@@ -14,6 +14,7 @@ use Rattle.market.specs.Amending.{Amends, Amends.in_place, Amends.no_number, Ame
 use Rattle.market.specs.BookCalls.{BookState, Matches, Settles, Settles.whole, Settles.rests, Settles.cut, Settles.killed, NoRoom, Enters, Enters.no_number, Enters.no_room, Enters.settled, Cancels, Cancels.taken_out}
 use Rattle.market.specs.Combinations.{FirstMade}
 use Rattle.market.specs.Endings.{Ending}
+use Rattle.market.specs.Legs.{listed}
 use Rattle.market.specs.Orders.{lot_book, lot_size, arriving, own, anew}
 use Rattle.market.specs.Quoting.{bid_of, offer_of, old_side, RevisesOld, is_new, needs, PlacesSide, PlacesSide.stands, PlacesSide.arrives, Quotes, Quotes.no_number, Quotes.no_room_bid, Quotes.no_room_offer, Quotes.placed}
 use Rattle.market.specs.Revisions.{cut_rows, Revision, kept, cancelled, Revises, Revises.none, Revises.keeps, Revises.cancels}
@@ -280,7 +281,7 @@ module _ (shares : List ℕ → ℕ → List ℕ) (v : View) where
   does_unique _ (cancels p n e h k) (at_fault _ e' h') = cc
   does_unique _ (cancels p n e h k) (cancels _ _ e' h' k') = ap (at_book v) (cancels_unique v.book p n k k')
   does_unique _ (finds p legs c h k) (at_fault _ e' h') = cc
-  does_unique _ (finds p legs c h k) (finds _ _ c' h' k') = ap (λ n. defined v legs.items n v.combinations) (first_made_unique _ _ c c' k k')
+  does_unique _ (finds p legs c h k) (finds _ _ c' h' k') = ap (λ n. defined v (listed legs) n v.combinations) (first_made_unique _ _ c c' k k')
   does_unique _ (finds p legs c h k) (makes _ _ h' k') = absurd (k' c k.there)
   does_unique _ (makes p legs h k) (at_fault _ e' h') = cc
   does_unique _ (makes p legs h k) (finds _ _ c' h' k') = absurd (k c' k'.there)

@@ -27,6 +27,7 @@ use Rattle.market.specs.Round.{legs_of, Round}
 use Rattle.market.specs.Rows.{some_rows, cancel_row}
 use Rattle.market.specs.Turns.{Turn}
 use Rattle.market.specs.Entries.{Entry, Entered}
+use Rattle.market.specs.Legs.{listed}
 use Rattle.market.specs.Venues.{View, fault, withdraws, at_book, Does, Does.at_fault, Does.enters, Does.amends, Does.quotes, Does.cancels, Does.finds, Does.makes, Does.switches, Takes, Takes.unread, Takes.read}
 use Rattle.market.proofs.Amending.{own_number}
 use Rattle.market.proofs.FairFills.{Known}
@@ -247,7 +248,7 @@ module _ {Message : Type 0} (reading : Message → Result Call Refusal) (h : Lis
       does_told _ _ (quotes p i q r k w e passes d) seen = quotes_told p i q r k w e passes d seen
       does_told _ _ (cancels p n e passes k) seen = taken_out_told p n e k
       does_told _ _ (finds p legs c passes k) seen = told_report reading h v.combinations (told_none reading h v.combinations 0)
-      does_told _ _ (makes p legs passes k) seen = let cs = v.combinations ++ normal legs.items ∷ [] in told_report reading h cs (told_none reading h cs 0)
+      does_told _ _ (makes p legs passes k) seen = let cs = v.combinations ++ normal (listed legs) ∷ [] in told_report reading h cs (told_none reading h cs 0)
       does_told _ _ (switches w phase next) seen =
           cancels_told v.combinations (filter (leaves (withdraws w)) v.book.orders) (All-filter (leaves (withdraws w)) (Known reading h) v.book.orders all_known)
 

@@ -12,10 +12,10 @@ use Rattle.std.proofs.lemmas.List.Folds.{Any-from_list_any}
 use Rattle.std.proofs.lemmas.List.Sums.{AllPass-from_list_all}
 use Rattle.std.proofs.lemmas.List.{length-map, length_push}
 use Rattle.std.proofs.lemmas.Option.{slice_get_read}
-use Rattle.arrayvec.specs.ArrayVec.{ArrayVec}
 use Rattle.market.specs.declared.call.Call.{Call}
 use Rattle.market.specs.declared.call.Call.TheVariants.{Define}
 use Rattle.market.specs.declared.leg.Leg.{Leg}
+use Rattle.market.specs.declared.legs.Legs.{Legs}
 use Rattle.market.specs.declared.product.Band.{Band}
 use Rattle.market.specs.declared.product.Product.{Product}
 use Rattle.market.specs.declared.product.Product.TheVariants.{Futures, Options}
@@ -25,6 +25,7 @@ use Rattle.market.specs.declared.row.Row.{Row}
 use Rattle.market.specs.Combinations.{size, is_minus, divisor, parts, turns, ratio_of, reduced_leg, normal, count_fits, neighbours, rises, is_nonzero, small, near, signs_fit, broken_leg, made, same_leg, same_legs, NoneMade, Rising, Normal, Spread, Listed, SoundTable}
 use Rattle.market.specs.BookCalls.{BookState}
 use Rattle.market.specs.Endings.{Ending, refused, done, Outcome, close, Follows}
+use Rattle.market.specs.Legs.{listed}
 use Rattle.market.specs.Tables.{unless, first_broken}
 use Rattle.market.specs.Venues.{View, between, trading, request_fault, fault, band_of, known, at_book, Does, Does.at_fault, Does.enters, Does.amends, Does.quotes, Does.cancels, Does.finds, Does.makes, Does.switches, Takes, Takes.unread, Takes.read}
 use Rattle.market.proofs.Ratios.{unmapped, Nonzero, minus-ratio_of, size-reduced, normal_nonzero, normal_undivided}
@@ -67,21 +68,21 @@ record Fit (v : View) (legs : List Leg) : Type 0 where
   shape : Shaped v.product legs
   room : (ltb (length v.combinations) 32 || list_any (same_legs (normal legs)) v.combinations) ≡ true
 
-fit : (v : View) (p : ℕ) (legs : ArrayVec Leg) → fault v (Define p legs) ≡ None → Fit v legs.items
+fit : (v : View) (p : ℕ) (legs : Legs) → fault v (Define p legs) ≡ None → Fit v (listed legs)
 fit v p legs h =
     let a = passed (
-    request_fault v p legs.items
-    ∷ unless (ltb (length v.combinations) 32 || list_any (same_legs (normal legs.items)) v.combinations) refusal.CombinationsSpent
+    request_fault v p (listed legs)
+    ∷ unless (ltb (length v.combinations) 32 || list_any (same_legs (normal (listed legs))) v.combinations) refusal.CombinationsSpent
     ∷ []) h in
     let b = passed (
     unless (trading v.phase) refusal.Phase
     ∷ unless (between 1 999 p) refusal.Participant
-    ∷ option_map refusal.Unknown (first_broken (λ l. known (band_of v.bands l.instrument)) legs.items 3)
-    ∷ option_map refusal.Legs (broken_leg v.product legs.items)
+    ∷ option_map refusal.Unknown (first_broken (λ l. known (band_of v.bands l.instrument)) (listed legs) 3)
+    ∷ option_map refusal.Legs (broken_leg v.product (listed legs))
     ∷ []) a.0 in
     record {
-      known = broken_none _ legs.items 3 (map_none refusal.Unknown _ b.1.1.0);
-      shape = shaped v.product legs.items (map_none refusal.Legs (broken_leg v.product legs.items) b.1.1.1.0);
+      known = broken_none _ (listed legs) 3 (map_none refusal.Unknown _ b.1.1.0);
+      shape = shaped v.product (listed legs) (map_none refusal.Legs (broken_leg v.product (listed legs)) b.1.1.1.0);
       room = unless_none _ refusal.CombinationsSpent a.1.0;
     }
 
@@ -255,8 +256,8 @@ makes_table v legs h new s = record {
 }
 
 -- a combination that is made has rising legs
-pub made_rising : (v : View) (p : ℕ) (legs : ArrayVec Leg) → fault v (Define p legs) ≡ None → Rising (normal legs.items)
-made_rising v p legs h = (has_form v.product legs.items (fit v p legs h).shape).rising
+pub made_rising : (v : View) (p : ℕ) (legs : Legs) → fault v (Define p legs) ≡ None → Rising (normal (listed legs))
+made_rising v p legs h = (has_form v.product (listed legs) (fit v p legs h).shape).rising
 
 -- what an ending leaves
 abbrev pub Left : Ending View → Type 0
@@ -279,7 +280,7 @@ module _ (shares : List ℕ → ℕ → List ℕ) where
   does_left v _ _ s (quotes p i q r k w e h m) = book_left v e s
   does_left v _ _ s (cancels p n e h m) = book_left v e s
   does_left v _ _ s (finds p legs c h k) = s
-  does_left v _ _ s (makes p legs h k) = makes_table v legs.items (fit v p legs h) k s
+  does_left v _ _ s (makes p legs h k) = makes_table v (listed legs) (fit v p legs h) k s
   does_left v _ _ s (switches w phase h) = s
 
   takes_left : (v : View) (r : Result Call Refusal) (e : Ending View) → Table v → Takes shares v r e → Left e

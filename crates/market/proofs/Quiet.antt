@@ -21,6 +21,7 @@ use Rattle.market.specs.BookCalls.{BookState, Enters, Enters.no_number, Enters.n
 use Rattle.market.specs.Combinations.{normal}
 use Rattle.market.specs.Endings.{Ending, refused, done, Outcome, close, Follows}
 use Rattle.market.specs.Ladders.{net_to, wanted}
+use Rattle.market.specs.Legs.{listed}
 use Rattle.market.specs.Orders.{lot_book}
 use Rattle.market.specs.Quoting.{Quotes, Quotes.no_number, Quotes.no_room_bid, Quotes.no_room_offer, Quotes.placed}
 use Rattle.market.specs.Round.{legs_of, eligible, Round, Round.over, Round.takes}
@@ -125,7 +126,7 @@ module _ (shares : List ℕ → ℕ → List ℕ) (v : View) (q : QuietView v) (
   does_quiet _ _ (quotes p i n r k w e h m) = at_book_quiet v e (quotes_quiet shares v.combinations v.book _ e m)
   does_quiet _ _ (cancels p n e h m) = at_book_quiet v e (cancels_quiet v.combinations v.book p n e q m)
   does_quiet _ _ (finds p legs c h k) = q
-  does_quiet _ _ (makes p legs h k) = quiet_more v.combinations (normal legs.items) v.book.orders x q
+  does_quiet _ _ (makes p legs h k) = quiet_more v.combinations (normal (listed legs)) v.book.orders x q
   does_quiet _ _ (switches w phase h) =
       at_book_quiet (in_phase v phase) (withdrawn (withdraws w) v.book) (withdrawn_quiet v.combinations (withdraws w) v.book q)
 

@@ -26,6 +26,7 @@ use Rattle.market.specs.Endings.{Effect, Ending, refused, done, Outcome, close, 
 use Rattle.market.specs.Orders.{lot_book, lot_size, lot_of, book_number, own_order}
 use Rattle.market.specs.Rows.{blank}
 use Rattle.market.specs.Entries.{Entry}
+use Rattle.market.specs.Legs.{listed}
 use Rattle.market.specs.Sessions.{Exists}
 use Rattle.market.specs.Tables.{unless}
 use Rattle.market.specs.Venues.{View, between, trading, band_of, known, tradable, price_fits, side_fits, bid_below_offer, amend_fault, fault, withdraws, in_phase, at_book, Does, Does.at_fault, Does.enters, Does.amends, Does.quotes, Does.cancels, Does.finds, Does.makes, Does.switches, Takes, Takes.unread, Takes.read}
@@ -214,7 +215,7 @@ module _ (shares : List ℕ → ℕ → List ℕ) (laws : Laws shares) where
     does_done _ _ (finds p legs c h k) = table_done v _ (Define p legs) _ define_unsaid tt (table_moves v _ s refl (λ c legs m. m) (λ r. r))
     does_done _ _ (makes p legs h k) =
         table_done v _ (Define p legs) _ define_unsaid tt
-        (table_moves v _ s refl (made_grows v.combinations (normal legs.items)) (rising_grows v.combinations (normal legs.items) (made_rising v p legs h)))
+        (table_moves v _ s refl (made_grows v.combinations (normal (listed legs))) (rising_grows v.combinations (normal (listed legs)) (made_rising v p legs h)))
     does_done _ _ (switches w phase h) =
         at_book_done v phase (Switch w) (λ a new. new ≡ []) (withdrawn (withdraws w) v.book) (λ a new. says_none v.book.next v.book.orders (Switch w) a switch_unsaid tt new)
         (withdrawn_keeps v.combinations (withdraws w) v.book s)

@@ -4,11 +4,10 @@ use Rattle.std.specs.List.{Any}
 use Rattle.std.proofs.lemmas.Bool.{cond_both}
 use Rattle.std.proofs.lemmas.Bool.Decides.{nat_tests}
 use Rattle.std.proofs.lemmas.List.Elements.{All-nil, All-cons}
-use Rattle.arrayvec.specs.ArrayVec.{ArrayVec}
 use Rattle.market.specs.declared.call.Call.{Call}
 use Rattle.market.specs.declared.call.Call.TheVariants.{Enter, Amend, Cancel, Quote, Define, Switch}
 use Rattle.market.specs.declared.call.Duration.{Duration}
-use Rattle.market.specs.declared.leg.Leg.{Leg}
+use Rattle.market.specs.declared.legs.Legs.{Legs}
 use Rattle.market.specs.declared.order.Order.{Order}
 use Rattle.market.specs.declared.phase.Event.{Event}
 use Rattle.market.specs.declared.price.Price.{Price}
@@ -56,7 +55,7 @@ says_none next os c a none rests new e = record {
 pub cancel_unsaid : {os : List Order} {p n : ℕ} {a : ℕ × ℕ} (x : Entry) → Said os (Cancel p n) a x → ⊥
 cancel_unsaid x said = elim said [ ]
 
-pub define_unsaid : {os : List Order} {p : ℕ} {legs : ArrayVec Leg} {a : ℕ × ℕ} (x : Entry) → Said os (Define p legs) a x → ⊥
+pub define_unsaid : {os : List Order} {p : ℕ} {legs : Legs} {a : ℕ × ℕ} (x : Entry) → Said os (Define p legs) a x → ⊥
 define_unsaid x said = elim said [ ]
 
 pub switch_unsaid : {os : List Order} {w : Event} {a : ℕ × ℕ} (x : Entry) → Said os (Switch w) a x → ⊥

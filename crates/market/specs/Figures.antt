@@ -16,6 +16,7 @@ use Rattle.market.specs.declared.side.Side.{Side}
 use Rattle.market.specs.declared.side.Side.TheVariants.{Buy, Sell}
 use Rattle.market.specs.Combinations.{normal, turns}
 use Rattle.market.specs.Ladders.{unit_net}
+use Rattle.market.specs.Legs.{legs_named}
 use Rattle.market.specs.Refusals.{refusal_code, told}
 use Rattle.market.specs.Venues.{View, fault}
 
@@ -29,7 +30,7 @@ open_pair product = record { product = product; phase = Continuous; bands = reco
 
 -- how a request for these legs is refused there
 abbrev pub refused_pair : Product → List Leg → Option RefusalCode
-refused_pair product legs = option_map refusal_code (fault (open_pair product) (Define 7 (record { items = legs })))
+refused_pair product legs = option_map refusal_code (fault (open_pair product) (Define 7 (legs_named legs)))
 
 -- one contract of an instrument rests at a price
 abbrev pub one_contract : ℕ → Side → ℕ → Order

@@ -3,6 +3,7 @@ pub mod Orders
 pub mod Levels
 pub mod Tables
 pub mod Combinations
+pub mod Legs
 pub mod NormalForms
 pub mod Ladders
 pub mod Rows

@@ -2,12 +2,12 @@
 use Rattle.std.specs.Prelude.{◌≡◌, ℕ, ◌+◌, ◌-◌, Bool, true, false, cond, ◌&&◌, ◌||◌, List, [], ◌∷◌, ◌++◌, length, pos, neg_ℤ, Some, None, Ok, Err, Option, Result, ◌==◌, int_le, nat_lt, nat_le, int_lt}
 use Rattle.std.specs.List.{slice_get, list_any}
 use Rattle.std.specs.Option.{is_some, option_map}
-use Rattle.arrayvec.specs.ArrayVec.{ArrayVec}
 use Rattle.market.specs.declared.acceptance.Acceptance.TheVariants.{Defined}
 use Rattle.market.specs.declared.call.Call.{Call}
 use Rattle.market.specs.declared.call.Call.TheVariants.{Enter, Amend, Cancel, Quote, Define, Switch}
 use Rattle.market.specs.declared.call.Duration.{Duration}
 use Rattle.market.specs.declared.leg.Leg.{Leg}
+use Rattle.market.specs.declared.legs.Legs.{Legs}
 use Rattle.market.specs.declared.order.Order.{Order}
 use Rattle.market.specs.declared.phase.Event.{Event}
 use Rattle.market.specs.declared.phase.Event.TheVariants.{Open, Halt, Resume, Close}
@@ -25,6 +25,7 @@ use Rattle.market.specs.Amending.{Amends}
 use Rattle.market.specs.BookCalls.{BookState, Enters, Cancels, withdrawn}
 use Rattle.market.specs.Combinations.{normal, turns, broken_leg, exists, same_legs, NoneMade, FirstMade}
 use Rattle.market.specs.Endings.{Ending, refused, done}
+use Rattle.market.specs.Legs.{listed}
 use Rattle.market.specs.Orders.{lot_book, book_number, own_order, is_instrument, lot_of}
 use Rattle.market.specs.Quoting.{Quotes}
 use Rattle.market.specs.Tables.{unless, topmost, first_broken}
@@ -167,8 +168,8 @@ fault v (Quote p i q r k w) = topmost (
     ∷ unless (bid_below_offer q r k w) refusal.Crossed
     ∷ [])
 fault v (Define p legs) = topmost (
-    request_fault v p legs.items
-    ∷ unless (nat_lt (length v.combinations) 32 || list_any (same_legs (normal legs.items)) v.combinations) refusal.CombinationsSpent
+    request_fault v p (listed legs)
+    ∷ unless (nat_lt (length v.combinations) 32 || list_any (same_legs (normal (listed legs))) v.combinations) refusal.CombinationsSpent
     ∷ [])
 
 -- ---- what is done
@@ -216,11 +217,11 @@ module _ (shares : List ℕ → ℕ → List ℕ) where
     -- a resting order is taken out
     cancels : (p n : ℕ) (e : Ending BookState) → fault v (Cancel p n) ≡ None → Cancels v.book p n e → Does v (Cancel p n) (at_book v e)
     -- a combination with these legs exists: nothing is made
-    finds : (p : ℕ) (legs : ArrayVec Leg) (c : ℕ) → fault v (Define p legs) ≡ None → FirstMade v.combinations (normal legs.items) c →
-        Does v (Define p legs) (defined v legs.items c v.combinations)
+    finds : (p : ℕ) (legs : Legs) (c : ℕ) → fault v (Define p legs) ≡ None → FirstMade v.combinations (normal (listed legs)) c →
+        Does v (Define p legs) (defined v (listed legs) c v.combinations)
     -- none has these legs: a new one stands as the last
-    makes : (p : ℕ) (legs : ArrayVec Leg) → fault v (Define p legs) ≡ None → NoneMade v.combinations (normal legs.items) →
-        Does v (Define p legs) (defined v legs.items (1001 + length v.combinations) (v.combinations ++ normal legs.items ∷ []))
+    makes : (p : ℕ) (legs : Legs) → fault v (Define p legs) ≡ None → NoneMade v.combinations (normal (listed legs)) →
+        Does v (Define p legs) (defined v (listed legs) (1001 + length v.combinations) (v.combinations ++ normal (listed legs) ∷ []))
     -- the phase changes
     switches : (w : Event) (phase : Phase) → next_phase v.phase w ≡ Some phase → Does v (Switch w) (at_book (in_phase v phase) (withdrawn (withdraws w) v.book))
 

@@ -1,10 +1,8 @@
 // What a member can ask of a venue.
-use crate::combination::MOST_LEGS;
-use crate::leg::Leg;
+use crate::legs::Legs;
 use crate::phase::Event;
 use crate::price::Price;
 use crate::side::Side;
-use arrayvec::ArrayVec;
 
 // What becomes of what does not trade: it rests for the day, is cancelled, or the order trades whole or not at all.
 #[derive(Clone, Copy)]
@@ -15,7 +13,7 @@ pub enum Duration {
 }
 
 // One call, as read from a line: all numbers as they stand there, a book by its number alone; the gate judges them, and makes an Arrival, a Quote or an OrderId of them for the book.
-#[derive(Clone, Drop)]
+#[derive(Clone, Copy)]
 pub enum Call {
     Enter {
         participant: u32,
@@ -45,7 +43,7 @@ pub enum Call {
     },
     Define {
         participant: u32,
-        legs: ArrayVec<Leg, MOST_LEGS>,
+        legs: Legs,
     },
     Switch {
         event: Event,

@@ -10,6 +10,7 @@ pub mod counts;
 pub mod figures;
 pub mod laws;
 pub mod leg;
+pub mod legs;
 pub mod order;
 pub mod order_id;
 pub mod phase;

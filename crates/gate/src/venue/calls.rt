@@ -22,8 +22,9 @@ use arrayvec::ArrayVec;
 use book::book::Book;
 use market::acceptance::Acceptance;
 use market::call::Call;
-use market::combination::{Combination, FIRST_COMBINATION, MOST_LEGS};
+use market::combination::{Combination, FIRST_COMBINATION};
 use market::leg::Leg;
+use market::legs::Legs;
 use market::order_id::OrderId;
 use market::phase::{Event, Phase};
 use market::price::Price;
@@ -132,7 +133,7 @@ impl<R: AllocationRule> Venue<R> {
     fn define(
         &mut self,
         participant: u32,
-        legs: &ArrayVec<Leg, MOST_LEGS>,
+        legs: &Legs,
         report: &mut [Row],
     ) -> Result<(u32, u32), Refusal>
         ensures follows { Follows (Does (R.AllocationRule.shares (rule_of self.old)) (view self.old) (Define participant legs.now)) (view self.old) (length report.old) result report.new (view self.new) }

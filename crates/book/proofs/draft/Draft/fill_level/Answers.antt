@@ -25,5 +25,5 @@ trade-requires-clause-below g c =
     let shares = g.R.AllocationRule.shares c.args.rule.now in
     let read = c.read_level-level.ensures in
     let is = level_read b s p os c.args.left c.place.result _ _ _ c.place.ensures read.collected read.total c.min-traded.ensures in
-    let ks : c.as_slice-shares.result.now ≡ divided shares b s p os c.args.left = ◌∙◌ {A = List ℕ} c.as_slice-shares.ensures.value (◌∙◌ {A = List ℕ} c.divide.ensures (λ j. shares (is.0 j) (is.1 j))) in
+    let ks : c.as_slice-shares.result.now ≡ divided shares b s p os c.args.left = ◌∙◌ {A = List ℕ} c.as_slice-shares.ensures.value (◌∙◌ {A = List ℕ} c.divide.ensures.shares (λ j. shares (is.0 j) (is.1 j))) in
     subst (λ (xs : List ℕ). Below xs (quantities (facing b s p os))) (sym ks) (shares_below shares (g.met.R.AllocationRule.lawful c.args.rule.now) b s p os c.args.left (within_bounds c.args.self.now.orders) c.requires.best)

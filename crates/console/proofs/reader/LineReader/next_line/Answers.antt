@@ -22,9 +22,12 @@ returns-then-self g c = (
   (
     refl,
     λ _. tt,
-    λ rules used text ready s. (
-      still_then text c.in_ok-fill.ensures.keeps ready (c.loop.invariant.1 rules used text ready s),
-      c.in_ok-fill.ensures.ended c.if-self.true,
+    (
+      λ h. absurd (cc),
+      λ rules used text ready s. (
+        still_then text c.in_ok-fill.ensures.keeps ready (c.loop.invariant.1 rules used text ready s),
+        c.in_ok-fill.ensures.ended c.if-self.true,
+      ),
     ),
   ),
   record { same = c.in_ok-fill.ensures.same ∙ c.loop.invariant.0; found = tt; failed = tt },
@@ -35,14 +38,17 @@ returns-in-Some g c = (
   (
     refl,
     λ _. tt,
-    λ rules used text ready s.
-        let r = c.fill.new.self in
-        let cuts = subst (λ xs. Cuts r.cutter (take (r.end - r.at) (drop r.at xs)) c.take.result c.take.new.self) c.deref.ensures.value c.take.ensures.cuts in
-        let moves = ap (λ u. r.at + used_by u (unread r)) (sym c.in-Some.is) in
-        let t = still_then text c.in_ok-fill.ensures.keeps ready (c.loop.invariant.1 rules used text ready s) in (
-          found_then text t.used' t.lines (cut_found r _ c.take.result (record { cuts = cuts; moves = moves; stays = refl; block = refl }) rules g.W.Wire.log c.fill.new.wire t.used' text t.stands (ap is_some c.in-Some.is)),
-          c.line.ensures,
-        ),
+    (
+      λ _. c.take.ensures.cuts.state ∙ ap is_some c.in-Some.is,
+      λ rules used text ready s.
+          let r = c.fill.new.self in
+          let cuts = subst (λ xs. Cuts r.cutter (take (r.end - r.at) (drop r.at xs)) c.take.result c.take.new.self) c.deref.ensures.value c.take.ensures.cuts in
+          let moves = ap (λ u. r.at + used_by u (unread r)) (sym c.in-Some.is) in
+          let t = still_then text c.in_ok-fill.ensures.keeps ready (c.loop.invariant.1 rules used text ready s) in (
+            found_then text t.used' t.lines (cut_found r _ c.take.result (record { cuts = cuts; moves = moves; stays = refl; block = refl }) rules g.W.Wire.log c.fill.new.wire t.used' text t.stands (ap is_some c.in-Some.is)),
+            c.line.ensures,
+          ),
+    ),
   ),
   record { same = c.in_ok-fill.ensures.same ∙ c.loop.invariant.0; found = tt; failed = tt },
 )
