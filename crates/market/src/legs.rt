@@ -5,6 +5,7 @@ ghost use Rattle.market.specs.Legs.{listed, legs_named};
 use crate::combination::MOST_LEGS;
 use crate::leg::Leg;
 
+// Plain fields and no `ArrayVec`, which is not copied, as a call is; so a count can be more than ten.
 #[derive(Clone, Copy)]
 pub struct Legs {
     pub count: u32,
