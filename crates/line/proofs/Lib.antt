@@ -4,6 +4,7 @@ pub mod Takings
 pub mod Fillings
 pub mod Partings
 pub mod Judging
+pub mod Counts
 pub mod Openings
 pub mod Places
 pub mod Clips

@@ -1,5 +1,5 @@
 -- What a gateway promises of the line that builds a venue, and of every line after it.
-use Rattle.std.specs.Prelude.{◌≡◌, ℕ, Bool, false, ◌&&◌, List, [], ◌∷◌, length, Some, None, Ok, Err, Option, Result, nat_le}
+use Rattle.std.specs.Prelude.{◌≡◌, ℕ, ◌≤◌, Bool, false, ◌&&◌, List, [], ◌∷◌, length, Some, None, Ok, Err, Option, Result, nat_le}
 use Rattle.market.specs.declared.acceptance.Acceptance.TheVariants.{Built}
 use Rattle.market.specs.declared.product.Band.{Band}
 use Rattle.market.specs.declared.refusal.Refusal.{Refusal}
@@ -16,6 +16,9 @@ use Rattle.gate.specs.Views.{view, rule_of}
 use Rattle.line.specs.declared.bands.BuildLine.{BuildLine}
 use Rattle.line.specs.declared.gateway.Gateway.{Gateway}
 use Rattle.line.specs.declared.gateway.Opening.{Opening}
+use Rattle.line.specs.Bytes.{fields_of}
+use Rattle.line.specs.Kinds.{field_at}
+use Rattle.line.specs.Numbers.{decimal}
 use Rattle.line.specs.Verdicts.{line_call, build_line}
 
 -- the venue that a gateway holds
@@ -40,6 +43,10 @@ build_refusal (Err e) = Some e
 -- the verdict on the bands that a build line gives is what the rule says of them: which band is broken and how, or that all are sound
 abbrev pub JudgesBands : List ℕ → Type 0
 JudgesBands line = (b : BuildLine) → build_line line ≡ Ok b → BandsJudged (bands_given b) (build_fault (bands_given b))
+
+-- a build line that can be read gives as many bands as its second field says, from one to 64
+abbrev pub CountsBands : List ℕ → Type 0
+CountsBands line = (b : BuildLine) → build_line line ≡ Ok b → (length (bands_given b) ≡ decimal (field_at 1 (fields_of line))) × (1 ≤ length (bands_given b)) × (length (bands_given b) ≤ 64)
 
 -- a venue is built as the fields of a build line say, under the rule that is given, or a band is broken, or there is no memory though no band is broken
 abbrev pub OpensAs : {R : Type 0} → R → BuildLine → Result (Opening R) BuildError → Type 0

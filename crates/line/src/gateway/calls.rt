@@ -5,7 +5,7 @@ ghost use Rattle.market.specs.Unique.{RulesDetermine};
 ghost use Rattle.market.specs.Venues.{Takes};
 ghost use Rattle.line.specs.BuildLines.{build_form};
 ghost use Rattle.line.specs.CallLines.{call_form};
-ghost use Rattle.line.specs.Gateways.{gateway_view, gateway_rule, OpensAs, Opens, JudgesBands, by_line, GoesOn, turn_of};
+ghost use Rattle.line.specs.Gateways.{gateway_view, gateway_rule, OpensAs, Opens, CountsBands, JudgesBands, by_line, GoesOn, turn_of};
 ghost use Rattle.line.specs.Verdicts.{line_call, build_line, check_code, Read};
 
 use super::{Gateway, Opening};
@@ -47,6 +47,7 @@ impl<R: AllocationRule> Gateway<R> {
         R: Drop,
         ensures opens { Opens R.AllocationRule.shares rule line.now result }
         ensures read { Read build_form line.now (build_line line.now) }
+        ensures counted { CountsBands line.now }
         ensures bands { JudgesBands line.now }
     {
         let request = read_build(line)?;
