@@ -12,6 +12,7 @@ use Rattle.line.specs.BuildLines.{build_form}
 use Rattle.line.specs.Gateways.{build_refusal, Opened, Opens}
 use Rattle.line.specs.Verdicts.{build_line, product_named}
 use Rattle.line.proofs.Clips.{same_verdict}
+use Rattle.line.proofs.Counts.{count_few}
 use Rattle.console.specs.declared.buffered.BufferedWire.{BufferedWire}
 use Rattle.console.specs.declared.reader.LineReader.{LineReader}
 use Rattle.console.specs.declared.session.Session.{Session}
@@ -78,7 +79,7 @@ module _ {R : Type 0} {shares : R → List ℕ → ℕ → List ℕ} {rule : R} 
           record {
             answer = o.answer;
             accepted = sym (ap build_refusal (alike line is)) ∙ opens.0;
-            opened = subst (λ (x : Gateway R). Opened (shares rule) line o.answer (view x.venue)) same (record { request = was.request; says = sym (alike line is) ∙ was.says; stands = was.stands; answers = was.answers; reached = was.reached; sound = was.sound });
+            opened = subst (λ (x : Gateway R). Opened (shares rule) line o.answer (view x.venue)) same (record { request = was.request; says = sym (alike line is) ∙ was.says; stands = was.stands; answers = was.answers; counted = (count_few line was.request (sym (alike line is) ∙ was.says)).0; reached = was.reached; sound = was.sound });
             rule_is = ap (λ (x : Gateway R). x.venue.rule) (sym same) ∙ opens.2;
             written = w;
           }

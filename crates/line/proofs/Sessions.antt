@@ -17,6 +17,7 @@ use Rattle.line.specs.declared.bands.BuildLine.{BuildLine}
 use Rattle.line.specs.declared.gateway.Opening.{Opening}
 use Rattle.line.specs.Gateways.{bands_given, build_refusal, Opened, OpensAs, Opens, GoesOn, turn_of}
 use Rattle.line.specs.Verdicts.{line_call, build_line}
+use Rattle.line.proofs.Counts.{count_few}
 
 module _ {shares : List ℕ → ℕ → List ℕ} {v : View} {room : ℕ} {asked : Result Call Refusal} {answer : Result (ℕ × ℕ) Refusal} {rows : List Row} where
   -- a line that cannot be read
@@ -36,7 +37,7 @@ pub opened : (shares : List ℕ → ℕ → List ℕ) → Laws shares → (line 
 opened shares laws line b answer v says stands answers =
     let new : v ≡ fresh v.product v.bands = stands ∙ sym (ap (λ (u : View). fresh u.product u.bands) stands) in
     let both = begins line_call shares laws v new in
-    record { request = b; says = says; stands = stands; answers = answers; reached = both.0; sound = both.1 }
+    record { request = b; says = says; stands = stands; answers = answers; counted = (count_few line b says).0; reached = both.0; sound = both.1 }
 
 pub opens_from : {R : Type 0} (shares : R → List ℕ → ℕ → List ℕ) (rule : R) → Laws (shares rule) → (line : List ℕ) (b : BuildLine) → build_line line ≡ Ok b → (r : Result (Opening R) BuildError) → OpensAs rule b r → Opens shares rule line r
 opens_from shares rule laws line b says (Ok o) h = (ap build_refusal says ∙ h.0, opened (shares rule) laws line b o.answer (view o.gateway.venue) says h.1 h.2, h.3)

@@ -1,11 +1,14 @@
 -- What a gateway promises of the line that builds a venue, and of every line after it.
 use Rattle.std.specs.Prelude.{◌≡◌, ℕ, ◌≤◌, Bool, false, ◌&&◌, List, [], ◌∷◌, length, Some, None, Ok, Err, Option, Result, nat_le}
 use Rattle.market.specs.declared.acceptance.Acceptance.TheVariants.{Built}
+use Rattle.market.specs.declared.call.Call.TheVariants.{Define}
+use Rattle.market.specs.declared.legs.Legs.{Legs}
 use Rattle.market.specs.declared.product.Band.{Band}
 use Rattle.market.specs.declared.refusal.Refusal.{Refusal}
 use Rattle.market.specs.declared.row.Row.{Row}
 use Rattle.market.specs.Acceptances.{acceptance_numbers}
 use Rattle.market.specs.Bands.{build_fault, BandsJudged}
+use Rattle.market.specs.Legs.{listed}
 use Rattle.market.specs.Refusals.{refusal_code}
 use Rattle.market.specs.Turns.{Turn}
 use Rattle.market.specs.Sessions.{Reached, Sound}
@@ -54,12 +57,13 @@ OpensAs rule b (Ok o) = (build_fault (bands_given b) ≡ None) × (gateway_view 
 OpensAs rule b (Err (Refused e)) = build_fault (bands_given b) ≡ Some e
 OpensAs rule b (Err OutOfMemory) = build_fault (bands_given b) ≡ None
 
--- a venue is just built as the line says; its answer has the number of instruments, and its session begins here
+-- a venue is just built as the line says; its answer has the number of instruments, as the second field says it, and its session begins here
 pub record Opened (shares : List ℕ → ℕ → List ℕ) (line : List ℕ) (answer : ℕ × ℕ) (v : View) : Type 0 where
   pub request : BuildLine
   pub says : build_line line ≡ Ok request
   pub stands : v ≡ fresh request.product (bands_given request)
   pub answers : answer ≡ acceptance_numbers (Built (length (bands_given request)))
+  pub counted : length (bands_given request) ≡ decimal (field_at 1 (fields_of line))
   pub reached : Reached line_call shares [] v
   pub sound : Sound line_call [] v
 
@@ -69,7 +73,11 @@ Opens shares rule line (Ok o) = (build_refusal (build_line line) ≡ None) × Op
 Opens shares rule line (Err (Refused e)) = build_refusal (build_line line) ≡ Some e
 Opens shares rule line (Err OutOfMemory) = build_refusal (build_line line) ≡ None
 
--- ---- answers
+-- ---- calls
+
+-- a define line that can be read counts as many legs as its third field says, from two to ten, and lists so many
+abbrev pub CountsLegs : List ℕ → Type 0
+CountsLegs line = (p : ℕ) (legs : Legs) → line_call line ≡ Ok (Define p legs) → (legs.count ≡ decimal (field_at 2 (fields_of line))) × (2 ≤ legs.count) × (legs.count ≤ 10) × (length (listed legs) ≡ legs.count)
 
 -- the answer is a refusal by the line layer: number 1 or 2
 abbrev pub by_line : Result (ℕ × ℕ) Refusal → Bool

@@ -5,7 +5,7 @@ ghost use Rattle.market.specs.Unique.{RulesDetermine};
 ghost use Rattle.market.specs.Venues.{Takes};
 ghost use Rattle.line.specs.BuildLines.{build_form};
 ghost use Rattle.line.specs.CallLines.{call_form};
-ghost use Rattle.line.specs.Gateways.{gateway_view, gateway_rule, OpensAs, Opens, CountsBands, JudgesBands, by_line, GoesOn, turn_of};
+ghost use Rattle.line.specs.Gateways.{gateway_view, gateway_rule, OpensAs, Opens, CountsBands, JudgesBands, CountsLegs, by_line, GoesOn, turn_of};
 ghost use Rattle.line.specs.Verdicts.{line_call, build_line, check_code, Read};
 
 use super::{Gateway, Opening};
@@ -58,6 +58,7 @@ impl<R: AllocationRule> Gateway<R> {
     pub fn call(&mut self, line: &[u8], report: &mut [Row]) -> Result<(u32, u32), Refusal>
         ensures follows { Follows (Takes (R.AllocationRule.shares (gateway_rule self.old)) (gateway_view self.old) (line_call line.now)) (gateway_view self.old) (length report.old) result report.new (gateway_view self.new) }
         ensures read { Read call_form line.now (line_call line.now) }
+        ensures counted { CountsLegs line.now }
         ensures alone { RulesDetermine }
         ensures rule { gateway_rule self.new ≡ gateway_rule self.old }
         ensures checked { by_line result ≡ not (check_code (line_call line.now) == 0) }
